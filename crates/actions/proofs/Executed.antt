@@ -1,0 +1,197 @@
+-- What an executor answers is what its program comes to: a law for each way out, in the terms that the code has in hand there.
+use Prim.Native.Nat.{ℕ, zero, suc, _+_, _<_, _%_}
+use native.Mathlib.Omega.{arith}
+use mathlib.Core.Path.{_≡_, refl, sym, _∙_, ap}
+use mathlib.Core.List.{List, [], _∷_}
+use lib.ListN.{length, getD, set}
+use Rattle.pages.specs.declared.Access.{Access}
+use Rattle.pages.specs.declared.Access.the-variants.{Load, Store}
+use Rattle.pages.specs.declared.Cause.{Cause}
+use Rattle.pages.specs.declared.Look.{Look}
+use Rattle.pages.specs.declared.Look.the-variants.{At, Refused}
+use Rattle.pages.specs.Tests.{numberOf}
+use Rattle.pages.specs.Look.{lookOf}
+use Rattle.pages.specs.Framed.{Framed, framedOf, accessedAt, readByte, writeByte}
+use Rattle.machine.specs.Prog.{Prog, done, fail, look, get, put, Answer, finished, refused, interp}
+use Rattle.machine.specs.Run.{Result, one}
+use Rattle.machine.specs.Fields.{looks, gets, puts, moves, compares, aligned, loading, storing, bytesOf}
+use Rattle.machine.specs.Store.{framed}
+use Rattle.machine.specs.Cpu.{Cpu, reg, withReg, withRes, onward, ahead}
+use Rattle.machine.specs.Rs.{fills, spills, nextReg, nextWord}
+use Rattle.actions.specs.Multiple.{filled, spilled}
+use Rattle.machine.specs.Rx.{widthOf, taken}
+use Rattle.words.specs.declared.Res.{Res}
+use Rattle.code.specs.declared.Operand.{Operand}
+use Rattle.fields.specs.declared.Field.{Field}
+use Rattle.fields.specs.Direct.{lookFields, lookOne, noteField, readField, writeField, moveField, compareField}
+use Rattle.fields.proofs.Bridge.{afterLook, gets-is, puts-is, moves-is, compares-is}
+use Rattle.actions.specs.declared.Now.{Now}
+use Rattle.actions.specs.declared.Out.{Out}
+use Rattle.actions.specs.declared.Out.the-variants.{Done, Stop}
+use Rattle.actions.specs.Told.{cpuOf, told, refusalOf}
+use Rattle.actions.proofs.Looks.{one-stop, one-go, byte-stop, byte-go, two-is, off-boundary, on-boundary}
+
+-- a program that does no more than set the state
+pub no-storage : (regs regs′ : List ℕ) (c n : Now) (p : Prog Cpu) (s : Framed) → done (cpuOf regs′ n) ≡ p
+    → told (Done n) regs′ c s ≡ one (cpuOf regs c) (interp framed p s s)
+unfolding told interp
+no-storage regs regs′ c n p s e = ap (λ (q : Prog Cpu). one (cpuOf regs c) (interp framed q s s)) e
+
+-- the state and the store that a program ends in
+ends : (regs regs′ : List ℕ) (c n : Now) (p : Prog Cpu) (s s′ : Framed) → interp framed p s s ≡ finished (cpuOf regs′ n) s′
+    → told (Done n) regs′ c s′ ≡ one (cpuOf regs c) (interp framed p s s)
+unfolding told
+ends regs regs′ c n p s s′ e = ap (one (cpuOf regs c)) (sym e)
+
+stops : (regs : List ℕ) (c : Now) (k a : ℕ) (p : Prog Cpu) (s : Framed) → interp framed p s s ≡ refused k a s
+    → told (Stop k a) regs c s ≡ one (cpuOf regs c) (interp framed p s s)
+unfolding told
+stops regs c k a p s e = ap (one (cpuOf regs c)) (sym e)
+
+-- a refusal that is handed on
+hands-on : (regs : List ℕ) (c : Now) (p : Prog Cpu) (s : Framed) (found : Look) (out : Out) (d : Cause) (b : ℕ)
+    → out ≡ refusalOf found → found ≡ Refused d b → interp framed p s s ≡ refused (numberOf d) b s
+    → told out regs c s ≡ one (cpuOf regs c) (interp framed p s s)
+hands-on regs c p s found out d b eo ef e = rw (eo, ef) (stops regs c (numberOf d) b p s e)
+
+module _ (regs : List ℕ) (c : Now) (mem map : List ℕ) where
+  -- an operand on a boundary of w, m bytes from a
+  module _ (w a : ℕ) (acc : Access) (m : ℕ) (k : Prog Cpu) where
+    pub operand-off : (a % w ≡ 0 → ⊥)
+        → told (Stop 2 a) regs c (framedOf mem map)
+        ≡ one (cpuOf regs c) (interp framed (aligned w a (looks acc a m k)) (framedOf mem map) (framedOf mem map))
+    unfolding interp
+    operand-off h =
+        stops regs c 2 a (aligned w a (looks acc a m k)) (framedOf mem map)
+        (ap (λ (p : Prog Cpu). interp framed p (framedOf mem map) (framedOf mem map)) (off-boundary w a (looks acc a m k) h))
+
+    module _ (h : a % w ≡ 0) (found : Look) (e : found ≡ lookOne map (length mem) acc a m) where
+      pub operand-stop : (out : Out) (d : Cause) (b : ℕ) → 0 < m → out ≡ refusalOf found → found ≡ Refused d b
+          → told out regs c (framedOf mem map)
+          ≡ one (cpuOf regs c) (interp framed (aligned w a (looks acc a m k)) (framedOf mem map) (framedOf mem map))
+      operand-stop out d b l eo ef =
+          hands-on regs c (aligned w a (looks acc a m k)) (framedOf mem map) found out d b eo ef
+          (ap (λ (p : Prog Cpu). interp framed p (framedOf mem map) (framedOf mem map)) (on-boundary w a (looks acc a m k) h)
+          ∙ one-stop acc a m k mem map (framedOf mem map) d b (sym e ∙ ef) l)
+
+      pub operand-go : (r : ℕ) (map′ regs′ : List ℕ) (t : Framed) (next : Now) → found ≡ At r → map′ ≡ noteField map a m
+          → interp framed k (framedOf mem map) (framedOf mem map′) ≡ finished (cpuOf regs′ next) t
+          → told (Done next) regs′ c t
+          ≡ one (cpuOf regs c) (interp framed (aligned w a (looks acc a m k)) (framedOf mem map) (framedOf mem map))
+      operand-go r map′ regs′ t next ef em ek =
+          ends regs regs′ c next (aligned w a (looks acc a m k)) (framedOf mem map) t
+          (ap (λ (p : Prog Cpu). interp framed p (framedOf mem map) (framedOf mem map)) (on-boundary w a (looks acc a m k) h)
+          ∙ one-go acc a m k mem map (framedOf mem map) r (sym e ∙ ef)
+          ∙ ap (λ (x : List ℕ). interp framed k (framedOf mem map) (framedOf mem x)) (sym em)
+          ∙ ek)
+
+  -- one byte
+  module _ (acc : Access) (a : ℕ) (k : Prog Cpu) (found : Look) (e : found ≡ lookOf map (length mem) acc a) where
+    pub byte-no : (out : Out) (d : Cause) (b : ℕ) → out ≡ refusalOf found → found ≡ Refused d b
+        → told out regs c (framedOf mem map) ≡ one (cpuOf regs c) (interp framed (look acc a k) (framedOf mem map) (framedOf mem map))
+    byte-no out d b eo ef =
+        hands-on regs c (look acc a k) (framedOf mem map) found out d b eo ef
+        (byte-stop acc a k mem map (framedOf mem map) d b (sym e ∙ ef))
+
+    pub byte-yes : (r : ℕ) (map′ : List ℕ) (t : Framed) (next : Now) → found ≡ At r → map′ ≡ accessedAt map a
+        → interp framed k (framedOf mem map) (framedOf mem map′) ≡ finished (cpuOf regs next) t
+        → told (Done next) regs c t ≡ one (cpuOf regs c) (interp framed (look acc a k) (framedOf mem map) (framedOf mem map))
+    byte-yes r map′ t next ef em ek =
+        ends regs regs c next (look acc a k) (framedOf mem map) t
+        (byte-go acc a k mem map (framedOf mem map) r (sym e ∙ ef)
+        ∙ ap (λ (m : List ℕ). interp framed k (framedOf mem map) (framedOf mem m)) (sym em)
+        ∙ ek)
+
+  -- two fields
+  module _ (f g : Field) (k : Prog Cpu) (h : 0 < f .len) (found : Look) (e : found ≡ lookFields map (length mem) (f ∷ g ∷ []) (lookOf map (length mem) (f .access) (f .at))) where
+    pub two-no : (out : Out) (d : Cause) (b : ℕ) → out ≡ refusalOf found → found ≡ Refused d b
+        → told out regs c (framedOf mem map)
+        ≡ one (cpuOf regs c) (interp framed (looks (f .access) (f .at) (f .len) (looks (g .access) (g .at) (g .len) k)) (framedOf mem map) (framedOf mem map))
+    two-no out d b eo ef =
+        hands-on regs c (looks (f .access) (f .at) (f .len) (looks (g .access) (g .at) (g .len) k)) (framedOf mem map) found out d b eo ef
+        (two-is f g k mem map (framedOf mem map) h found e ∙ rw ef)
+
+    pub two-yes : (r : ℕ) (map′ map″ : List ℕ) (t : Framed) (next : Now) → found ≡ At r
+        → map′ ≡ noteField map (f .at) (f .len) → map″ ≡ noteField map′ (g .at) (g .len)
+        → interp framed k (framedOf mem map) (framedOf mem map″) ≡ finished (cpuOf regs next) t
+        → told (Done next) regs c t
+        ≡ one (cpuOf regs c) (interp framed (looks (f .access) (f .at) (f .len) (looks (g .access) (g .at) (g .len) k)) (framedOf mem map) (framedOf mem map))
+    two-yes r map′ map″ t next ef em en ek =
+        ends regs regs c next (looks (f .access) (f .at) (f .len) (looks (g .access) (g .at) (g .len) k)) (framedOf mem map) t
+        (two-is f g k mem map (framedOf mem map) h found e
+        ∙ rw ef
+        (ap (λ (m : List ℕ). interp framed k (framedOf mem map) (framedOf mem (noteField m (g .at) (g .len)))) (sym em)
+        ∙ ap (λ (m : List ℕ). interp framed k (framedOf mem map) (framedOf mem m)) (sym en)
+        ∙ ek))
+
+-- n registers filled from storage, and stored there
+fills-is : (n r a : ℕ) (regs : List ℕ) (next : Now) (kept s : Framed)
+    → interp framed (fills n r a (cpuOf regs next)) kept s ≡ finished (cpuOf (filled s n r a regs) next) s
+unfolding fills interp filled
+fills-is zero r a regs next kept s = refl
+fills-is (suc n) r a regs next kept s =
+    gets-is a 4 0 (λ v. fills n (nextReg r) (nextWord a) (withReg (cpuOf regs next) r v)) kept s
+    ∙ fills-is n (nextReg r) (nextWord a) (set regs r (readField s a 4 0)) next kept s
+
+pub fills-done : (n r a : ℕ) (regs regs′ : List ℕ) (next : Now) (kept s : Framed) (c : Cpu) → cpuOf regs next ≡ c → regs′ ≡ filled s n r a regs
+    → interp framed (fills n r a c) kept s ≡ finished (cpuOf regs′ next) s
+fills-done n r a regs regs′ next kept s c ec er =
+    ap (λ (d : Cpu). interp framed (fills n r a d) kept s) (sym ec)
+    ∙ fills-is n r a regs next kept s
+    ∙ ap (λ (x : List ℕ). finished (cpuOf x next) s) (sym er)
+
+pub spills-is : (n r a : ℕ) (regs : List ℕ) (c : Now) (k : Prog Cpu) (kept s : Framed)
+    → interp framed (spills n r a (cpuOf regs c) k) kept s ≡ interp framed k kept (spilled regs n r a s)
+unfolding spills spilled reg
+spills-is zero r a regs c k kept s = refl
+spills-is (suc n) r a regs c k kept s =
+    puts-is a 4 (getD regs r 0) (spills n (nextReg r) (nextWord a) (cpuOf regs c) k) kept s
+    ∙ spills-is n (nextReg r) (nextWord a) regs c k kept (writeField s a 4 (getD regs r 0))
+
+pub spills-done : (n r a : ℕ) (regs : List ℕ) (c next : Now) (k : Prog Cpu) (kept s t : Framed) → t ≡ spilled regs n r a s → done (cpuOf regs next) ≡ k
+    → interp framed (spills n r a (cpuOf regs c) k) kept s ≡ finished (cpuOf regs next) t
+unfolding interp
+spills-done n r a regs c next k kept s t et ek =
+    spills-is n r a regs c k kept s
+    ∙ ap (λ (u : Framed). interp framed k kept u) (sym et)
+    ∙ ap (λ (p : Prog Cpu). interp framed p kept t) (sym ek)
+
+-- a load's last state
+pub taken-done : (regs regs′ : List ℕ) (c : Now) (op : Operand) (r x n a p : ℕ) (res : Res) (s : Framed) → n ≡ bytesOf (widthOf op)
+    → res ≡ taken op x (readField s a (bytesOf (widthOf op)) 0) (c .code) → x ≡ getD regs r 0 → regs′ ≡ set regs r (res .value)
+    → p ≡ ahead (cpuOf regs c) 4
+    → done (cpuOf regs′ (record { pc = p; code = res .code; mask = c .mask }))
+    ≡ done (withRes (onward (cpuOf regs c) 4) r (taken op (reg (cpuOf regs c) r) (readField s a n 0) (c .code)))
+unfolding reg
+taken-done regs regs′ c op r x n a p res s en er ex eg ep = rw (eg, er, ex, ep, en)
+
+-- what follows the look-ups: bytes read, written, moved, compared
+pub loaded : (regs : List ℕ) (next : Now) (kept s : Framed) (a n : ℕ) (k : ℕ → Prog Cpu) → done (cpuOf regs next) ≡ k (readField s a n 0)
+    → interp framed (gets a n 0 k) kept s ≡ finished (cpuOf regs next) s
+unfolding interp
+loaded regs next kept s a n k ek =
+    gets-is a n 0 k kept s ∙ ap (λ (p : Prog Cpu). interp framed p kept s) (sym ek)
+
+pub stored : (regs : List ℕ) (next : Now) (kept s t : Framed) (a n v : ℕ) (k : Prog Cpu) → t ≡ writeField s a n v → done (cpuOf regs next) ≡ k
+    → interp framed (puts a n v k) kept s ≡ finished (cpuOf regs next) t
+unfolding interp
+stored regs next kept s t a n v k et ek =
+    puts-is a n v k kept s
+    ∙ ap (λ (u : Framed). interp framed k kept u) (sym et)
+    ∙ ap (λ (p : Prog Cpu). interp framed p kept t) (sym ek)
+
+pub moved : (regs : List ℕ) (next : Now) (kept s t : Framed) (a b n : ℕ) (k : Prog Cpu) → t ≡ moveField s a b n → done (cpuOf regs next) ≡ k
+    → interp framed (moves a b n k) kept s ≡ finished (cpuOf regs next) t
+unfolding interp
+moved regs next kept s t a b n k et ek =
+    moves-is a b n k kept s
+    ∙ ap (λ (u : Framed). interp framed k kept u) (sym et)
+    ∙ ap (λ (p : Prog Cpu). interp framed p kept t) (sym ek)
+
+pub compared : (regs : List ℕ) (next : Now) (kept s : Framed) (a b n v : ℕ) (k : ℕ → Prog Cpu) → v ≡ compareField s a b n
+    → done (cpuOf regs next) ≡ k v → interp framed (compares a b n k) kept s ≡ finished (cpuOf regs next) s
+unfolding interp
+compared regs next kept s a b n v k ev ek =
+    compares-is a b n k kept s
+    ∙ ap (λ (x : ℕ). interp framed (k x) kept s) (sym ev)
+    ∙ ap (λ (p : Prog Cpu). interp framed p kept s) (sym ek)

@@ -1,0 +1,47 @@
+// Actions: an executor for each action of the table, by format.
+pub mod branches;
+pub mod registers;
+pub mod rr;
+pub mod rs;
+pub mod rx;
+pub mod si;
+pub mod ss;
+
+use pages::Cause;
+use pages::Look;
+ghost use mathlib.Core.Path.{_≡_};
+ghost use Rattle.pages.specs.Tests.{numberOf};
+ghost use Rattle.actions.specs.Told.{refusalOf};
+
+// The state's scalars; the registers are lent beside it.
+pub struct Now {
+    pub pc: u32,
+    pub code: u8,
+    pub mask: u8,
+}
+
+// An instruction's answer: done, with the scalars afterwards, or stopped with a number at a place.
+pub enum Out {
+    Done(Now),
+    Stop(u32, u32),
+}
+
+fn number_of(cause: Cause) -> u32
+    ensures { λ r. ⌜ r ≡ numberOf cause ⌝ }
+{
+    match cause {
+        Cause::Addressing => 1,
+        Cause::PagingQueue => 3,
+        Cause::PagingError => 4,
+    }
+}
+
+// A look-up's refusal, handed on.
+pub fn refusal(look: Look) -> Out
+    ensures { λ r. ⌜ r ≡ refusalOf look ⌝ }
+{
+    match look {
+        Look::Refused(cause, at) => Out::Stop(number_of(cause), at),
+        Look::At(_) => Out::Stop(0, 0),
+    }
+}

@@ -1,0 +1,95 @@
+-- The base set: every operation that the machine knows, in document 01's order, with the operation code and the name of the manual's
+-- Appendix A (the line beside each row). What an action does is in the crate machine, by format: Rr, Rx, Rs, Si, Ss.
+use Prim.Native.Nat.{ℕ}
+use Prim.Native.String.{String}
+use mathlib.Core.List.{List, [], _∷_}
+use lib.Dec.{eqb}
+use Rattle.words.specs.Pick.{pick}
+use Rattle.words.specs.declared.Alu.the-variants.{Load, Test, Complement, Positive, Negative, Add, Subtract, Compare, AddLogical, SubtractLogical, CompareLogical, Bits}
+use Rattle.words.specs.declared.Logic.the-variants.{And, Or, Xor}
+use Rattle.code.specs.declared.Operand.the-variants.{WordWith, HalfSpread, ByteInserted}
+use Rattle.code.specs.declared.Width.the-variants.{Word, Half, Byte}
+use Rattle.code.specs.declared.Branch.the-variants.{OnCondition, AndLink, OnCount}
+use Rattle.code.specs.declared.RrAction.the-variants.{Registers, RegisterBranch}
+use Rattle.code.specs.declared.RxAction.the-variants.{Taking, Storing, LoadAddress, AddressBranch}
+use Rattle.code.specs.declared.RsAction.the-variants.{LoadMultiple, StoreMultiple, ShiftLeft, ShiftRight, BranchHigh, BranchLowEqual}
+use Rattle.code.specs.declared.SiAction.the-variants.{CompareByte, TestMask, BitsByte, MoveByte}
+use Rattle.code.specs.declared.SsAction.the-variants.{MoveField, CompareField}
+use Rattle.code.specs.declared.Action.{Action}
+use Rattle.code.specs.declared.Action.the-variants.{Rr, Rx, Rs, Si, Ss}
+use Rattle.code.specs.declared.Found.{Found}
+use Rattle.code.specs.declared.Found.the-variants.{Known, Unknown}
+
+pub record Row : Type 0 where
+  pub code : ℕ
+  pub name : String
+  pub action : Action
+
+abbrev pub row : ℕ → String → Action → Row
+row k n x = record { code = k; name = n; action = x }
+
+unfoldable pub table : List Row
+table =
+    -- Load and store
+    row 0x18 "LR" (Rr (Registers Load))  -- L6490
+    ∷ row 0x58 "L" (Rx (Taking (WordWith Load)))  -- L6489
+    ∷ row 0x48 "LH" (Rx (Taking HalfSpread))  -- L6484
+    ∷ row 0x12 "LTR" (Rr (Registers Test))  -- L6488
+    ∷ row 0x13 "LCR" (Rr (Registers Complement))  -- L6473
+    ∷ row 0x10 "LPR" (Rr (Registers Positive))  -- L6487
+    ∷ row 0x11 "LNR" (Rr (Registers Negative))  -- L6486
+    ∷ row 0x98 "LM" (Rs LoadMultiple)  -- L6485
+    ∷ row 0x50 "ST" (Rx (Storing Word))  -- L6501
+    ∷ row 0x40 "STH" (Rx (Storing Half))  -- L6499
+    ∷ row 0x90 "STM" (Rs StoreMultiple)  -- L6500
+    ∷ row 0x41 "LA" (Rx LoadAddress)  -- L6552
+    ∷ row 0x43 "IC" (Rx (Taking ByteInserted))  -- L6551
+    ∷ row 0x42 "STC" (Rx (Storing Byte))  -- L6579
+    -- Arithmetic
+    ∷ row 0x1a "AR" (Rr (Registers Add))  -- L6465
+    ∷ row 0x5a "A" (Rx (Taking (WordWith Add)))  -- L6464
+    ∷ row 0x1b "SR" (Rr (Registers Subtract))  -- L6506
+    ∷ row 0x5b "S" (Rx (Taking (WordWith Subtract)))  -- L6505
+    ∷ row 0x19 "CR" (Rr (Registers Compare))  -- L6468
+    ∷ row 0x59 "C" (Rx (Taking (WordWith Compare)))  -- L6467
+    ∷ row 0x1e "ALR" (Rr (Registers AddLogical))  -- L6463
+    ∷ row 0x5e "AL" (Rx (Taking (WordWith AddLogical)))  -- L6462
+    ∷ row 0x1f "SLR" (Rr (Registers SubtractLogical))  -- L6504
+    ∷ row 0x5f "SL" (Rx (Taking (WordWith SubtractLogical)))  -- L6503
+    -- Logical
+    ∷ row 0x15 "CLR" (Rr (Registers CompareLogical))  -- L6544
+    ∷ row 0x55 "CL" (Rx (Taking (WordWith CompareLogical)))  -- L6541
+    ∷ row 0x95 "CLI" (Si CompareByte)  -- L6543
+    ∷ row 0xd5 "CLC" (Ss CompareField)  -- L6542
+    ∷ row 0x14 "NR" (Rr (Registers (Bits And)))  -- L6539
+    ∷ row 0x54 "N" (Rx (Taking (WordWith (Bits And))))  -- L6536
+    ∷ row 0x94 "NI" (Si (BitsByte And))  -- L6538
+    ∷ row 0x16 "OR" (Rr (Registers (Bits Or)))  -- L6574
+    ∷ row 0x56 "O" (Rx (Taking (WordWith (Bits Or))))  -- L6571
+    ∷ row 0x96 "OI" (Si (BitsByte Or))  -- L6573
+    ∷ row 0x17 "XR" (Rr (Registers (Bits Xor)))  -- L6550
+    ∷ row 0x57 "X" (Rx (Taking (WordWith (Bits Xor))))  -- L6547
+    ∷ row 0x97 "XI" (Si (BitsByte Xor))  -- L6549
+    ∷ row 0x91 "TM" (Si TestMask)  -- L6581
+    ∷ row 0x92 "MVI" (Si MoveByte)  -- L6568
+    ∷ row 0xd2 "MVC" (Ss MoveField)  -- L6567
+    ∷ row 0x89 "SLL" (Rs ShiftLeft)  -- L6575
+    ∷ row 0x88 "SRL" (Rs ShiftRight)  -- L6576
+    -- Branch
+    ∷ row 0x07 "BCR" (Rr (RegisterBranch OnCondition))  -- L6593
+    ∷ row 0x47 "BC" (Rx (AddressBranch OnCondition))  -- L6592
+    ∷ row 0x05 "BALR" (Rr (RegisterBranch AndLink))  -- L6591
+    ∷ row 0x45 "BAL" (Rx (AddressBranch AndLink))  -- L6590
+    ∷ row 0x06 "BCTR" (Rr (RegisterBranch OnCount))  -- L6595
+    ∷ row 0x46 "BCT" (Rx (AddressBranch OnCount))  -- L6594
+    ∷ row 0x86 "BXH" (Rs BranchHigh)  -- L6596
+    ∷ row 0x87 "BXLE" (Rs BranchLowEqual)  -- L6610
+    ∷ []
+
+-- the action of the first row with this code
+abbrev pub find : List Row → ℕ → Found
+find [] k = Unknown
+find (r ∷ rs) k = pick (eqb k (r .code)) (Known (r .action)) (find rs k)
+
+unfoldable pub actionOf : ℕ → Found
+actionOf k = find table k

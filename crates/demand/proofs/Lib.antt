@@ -1,0 +1,9 @@
+pub mod Sim
+pub mod Words
+pub mod Ties
+pub mod Still
+pub mod Third
+pub mod Runs
+pub mod Blind
+pub mod Examples
+pub mod Halves

@@ -1,0 +1,4 @@
+mod Halfwords
+mod Runs
+mod Entries
+mod Only

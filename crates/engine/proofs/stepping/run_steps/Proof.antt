@@ -1,0 +1,93 @@
+use borrow.Author.Needs.{needs}
+use Prim.Native.Nat.{_+_}
+use native.Mathlib.Omega.{arith}
+use mathlib.Core.Path.{_≡_, refl, sym, _∙_}
+use lib.ListN.{length}
+use Rattle.pages.specs.Framed.{framedOf}
+use Rattle.machine.specs.Run.{run}
+use Rattle.machine.specs.Step.{step}
+use Rattle.machine.specs.Machine.{opsFor}
+use Rattle.actions.specs.Told.{cpuOf}
+use Rattle.engine.proofs.Runs.{adds, adds-none, run-on, run-stop, run-spent}
+use Rattle.engine.proofs.stepping.run_steps.Statement.{statement}
+use Rattle.engine.proofs.stepping.run_steps.Tie as tie
+use Rattle.engine.proofs.stepping.run_steps.Reads as reads
+use Rattle.engine.proofs.stepping.run_steps.Lts as lts
+use Rattle.engine.proofs.stepping.step_once.Reads as step-once-reads
+
+abbrev Inv-loop : tie.InvT-loop
+Inv-loop regs₀ mem₀ map₀ budget at₀ count₀ left₀ regs mem map at count left = (run opsFor step budget (cpuOf regs₀ at₀) (framedOf mem₀ map₀) ≡ adds count (run opsFor step left (cpuOf regs at) (framedOf mem map))) × (count + left ≡ budget) × (length regs ≡ length regs₀) × (length mem ≡ length mem₀) × (length map ≡ length map₀)
+
+abbrev μ-loop : tie.MeasureT-loop
+μ-loop regs₀ mem₀ map₀ budget at₀ count₀ left₀ regs mem map at count left = left
+
+loop-holds : tie.Need-loop-holds Inv-loop μ-loop
+loop-holds c = (adds-none _, omega arith, refl, refl, refl)
+
+step-once-requires : tie.Need-step-once-requires Inv-loop μ-loop
+step-once-requires c κs = search needs
+
+enum-known-out : tie.Need-enum-known-out Inv-loop μ-loop
+enum-known-out c = search needs
+
+same-length : tie.Need-same-length Inv-loop μ-loop
+same-length c = (c .before .before .before .before .before .before .before .before .before .step-once .kept .0) ∙ (c .before .before .before .before .before .before .before .before .before .before .before .before .before .before .loop .inv .2)
+
+same-length-2 : tie.Need-same-length-2 Inv-loop μ-loop
+same-length-2 c = (c .before .before .before .before .before .before .before .before .before .step-once .kept .1 .0) ∙ (c .before .before .before .before .before .before .before .before .before .before .before .before .before .before .loop .inv .3)
+
+same-length-3 : tie.Need-same-length-3 Inv-loop μ-loop
+same-length-3 c = (c .before .before .before .before .before .before .before .before .before .step-once .kept .1 .1 .0) ∙ (c .before .before .before .before .before .before .before .before .before .before .before .before .before .before .loop .inv .4)
+
+returns : tie.Need-returns Inv-loop μ-loop
+returns c = (run-stop _ _ _ _ _ _ (c .before .before .before .before .before .before .before .before .before .before .before .before .before .loop-test .taken) _ _ _ _ _ _ (c .before .before .before .before .before .before .before .before .before .step-once .ensures) ((c .before .out .given) .1) ∙ sym (c .before .before .before .before .before .before .before .before .before .before .before .before .before .before .loop .inv .0), omega arith)
+
+enum-known-out-2 : tie.Need-enum-known-out-2 Inv-loop μ-loop
+enum-known-out-2 c = search needs
+
+add-count : tie.Need-add-count Inv-loop μ-loop
+add-count c = omega arith
+
+sub-left : tie.Need-sub-left Inv-loop μ-loop
+sub-left c = omega arith
+
+loop-less : tie.Need-loop-less Inv-loop μ-loop
+loop-less c = omega arith
+
+loop-again : tie.Need-loop-again Inv-loop μ-loop
+loop-again c = ((c .before .before .before .before .before .before .before .before .before .before .before .before .before .before .loop .inv .0) ∙ run-on _ _ _ _ _ _ (c .before .before .before .before .before .before .before .before .before .before .before .before .before .loop-test .taken) _ _ _ _ _ (c .before .before .before .before .before .before .before .before .before .step-once .ensures) ((c .before .out2 .given) .1), omega arith, (c .before .before .before .before .before .before .before .before .before .step-once .kept .0) ∙ (c .before .before .before .before .before .before .before .before .before .before .before .before .before .before .loop .inv .2), (c .before .before .before .before .before .before .before .before .before .step-once .kept .1 .0) ∙ (c .before .before .before .before .before .before .before .before .before .before .before .before .before .before .loop .inv .3), (c .before .before .before .before .before .before .before .before .before .step-once .kept .1 .1 .0) ∙ (c .before .before .before .before .before .before .before .before .before .before .before .before .before .before .loop .inv .4))
+
+same-length-4 : tie.Need-same-length-4 Inv-loop μ-loop
+same-length-4 c = (c .before .loop .inv .2)
+
+same-length-5 : tie.Need-same-length-5 Inv-loop μ-loop
+same-length-5 c = (c .before .loop .inv .3)
+
+same-length-6 : tie.Need-same-length-6 Inv-loop μ-loop
+same-length-6 c = (c .before .loop .inv .4)
+
+returns-2 : tie.Need-returns-2 Inv-loop μ-loop
+returns-2 c = (run-spent _ _ _ _ _ _ (c .loop-test .left) ∙ sym (c .before .loop .inv .0), omega arith)
+
+pub run-steps-spec : {M : Type 1} → statement M
+run-steps-spec =
+    tie.close
+    (tie.spec
+    Inv-loop
+    μ-loop
+    loop-holds
+    step-once-requires
+    enum-known-out
+    same-length
+    same-length-2
+    same-length-3
+    returns
+    enum-known-out-2
+    add-count
+    sub-left
+    loop-less
+    loop-again
+    same-length-4
+    same-length-5
+    same-length-6
+    returns-2)

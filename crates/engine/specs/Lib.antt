@@ -1,0 +1,2 @@
+-- What the engine's own types say in the definitions' terms.
+pub mod Entry

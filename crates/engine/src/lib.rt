@@ -1,0 +1,74 @@
+// The engine: a step, a run, and the two public entries.
+pub mod door;
+pub mod formats;
+pub mod stepping;
+
+use actions::Now;
+use machine::Reply;
+use pages::Look;
+ghost use mathlib.Core.Path.{_≡_};
+ghost use Rattle.machine.specs.Machine.{given, outcome, stepOutcome, runOutcome};
+
+// A halfword of the instruction, or the look-up's refusal.
+pub enum Half {
+    Got(u16),
+    Missing(Look),
+}
+
+// How a run ended.
+pub struct Ran {
+    pub number: u32,
+    pub place: u32,
+    pub count: u32,
+    pub now: Now,
+}
+
+// One step from this state: number 0 and count 1 where it completed.
+pub fn step(
+    mem: &mut [u8],
+    map: &mut [u16],
+    regs: &mut [u32],
+    pc: u32,
+    code: u32,
+    mask: u32,
+) -> Reply
+    ensures { λ r. ⌜ outcome r (now (mem .exit)) (now (map .exit)) (now (regs .exit)) ≡ stepOutcome (given (now (mem .entry)) (now (map .entry)) (now (regs .entry)) pc code mask) ⌝ }
+{
+    if door::is_proper(mem, map, regs, pc, code, mask) {
+        let c = Now {
+            pc: pc,
+            code: (code % 4) as u8,
+            mask: (mask % 16) as u8,
+        };
+        let out = stepping::step_once(regs, mem, map, c);
+        return door::step_reply(c, out);
+    }
+    door::away(pc, code, mask)
+}
+
+// At most `budget` steps, up to the first refusal: 7 where the budget is spent.
+pub fn run(
+    mem: &mut [u8],
+    map: &mut [u16],
+    regs: &mut [u32],
+    pc: u32,
+    code: u32,
+    mask: u32,
+    budget: u32,
+) -> Reply
+    ensures { λ r. ⌜ outcome r (now (mem .exit)) (now (map .exit)) (now (regs .exit)) ≡ runOutcome budget (given (now (mem .entry)) (now (map .entry)) (now (regs .entry)) pc code mask) ⌝ }
+{
+    if door::is_proper(mem, map, regs, pc, code, mask) {
+        if budget <= 65535 {
+            let c = Now {
+                pc: pc,
+                code: (code % 4) as u8,
+                mask: (mask % 16) as u8,
+            };
+            let ran = stepping::run_steps(regs, mem, map, c, budget);
+            return door::run_reply(ran);
+        }
+        return door::away(pc, code, mask);
+    }
+    door::away(pc, code, mask)
+}

@@ -1,0 +1,68 @@
+// One step, and a run of steps.
+use crate::Half;
+use crate::Ran;
+use crate::formats;
+use actions::Now;
+use actions::Out;
+use code::Found;
+ghost use mathlib.Core.Path.{_≡_};
+ghost use Prim.Native.Nat.{_≤_};
+ghost use Rattle.pages.specs.Framed.{framedOf};
+ghost use Rattle.machine.specs.Run.{run};
+ghost use Rattle.machine.specs.Step.{step};
+ghost use Rattle.machine.specs.Machine.{opsFor};
+ghost use Rattle.actions.specs.Told.{cpuOf, told, doing};
+ghost use Rattle.engine.specs.Entry.{ranAs};
+
+pub fn step_once(regs: &mut [u32], mem: &mut [u8], map: &mut [u16], c: Now) -> Out
+    ensures { λ r. ⌜ told r (now (regs .exit)) c (framedOf (now (mem .exit)) (now (map .exit))) ≡ doing step (now (regs .entry)) c (framedOf (now (mem .entry)) (now (map .entry))) ⌝ }
+{
+    let pc = c.pc;
+    if pc % 2 == 1 {
+        return Out::Stop(2, pc);
+    }
+    let half = formats::fetch(mem, map, pc);
+    let Half::Got(h1) = half else {
+        return formats::missing(half);
+    };
+    let found = code::action_of((h1 / 256) as u8);
+    let Found::Known(x) = found else {
+        return Out::Stop(5, pc);
+    };
+    let out = formats::finish(regs, mem, map, c, x, h1);
+    formats::mark(map, pc, out);
+    out
+}
+
+// At most a budget of steps, up to the first refusal.
+pub fn run_steps(regs: &mut [u32], mem: &mut [u8], map: &mut [u16], c: Now, budget: u32) -> Ran
+    ensures { λ r. ⌜ (ranAs r (now (regs .exit)) (framedOf (now (mem .exit)) (now (map .exit))) ≡ run opsFor step budget (cpuOf (now (regs .entry)) c) (framedOf (now (mem .entry)) (now (map .entry)))) × (r .count ≤ budget) ⌝ }
+{
+    let mut at = c;
+    let mut count: u32 = 0;
+    let mut left = budget;
+    while 0 < left {
+        let out = step_once(regs, mem, map, at);
+        match out {
+            Out::Stop(number, place) => {
+                return Ran {
+                    number: number,
+                    place: place,
+                    count: count,
+                    now: at,
+                };
+            }
+            Out::Done(next) => {
+                at = next;
+                count = count + 1;
+                left = left - 1;
+            }
+        }
+    }
+    Ran {
+        number: 7,
+        place: 0,
+        count: count,
+        now: at,
+    }
+}

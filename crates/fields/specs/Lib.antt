@@ -1,0 +1,3 @@
+-- Working definitions: what the field programs come to over the framed store. Nobody has to believe them: proofs/Bridge ties each to
+-- its program.
+pub mod Direct

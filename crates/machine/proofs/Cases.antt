@@ -1,0 +1,172 @@
+-- Document 01's checks at the edges: one table, the starred ones first, and one proof, by computation.
+-- Instructions are run from memory, by the machine's own step and run.
+use Prim.Native.Nat.{ℕ, suc}
+use mathlib.Core.Path.{_≡_, refl}
+use mathlib.Core.Bool.{Bool, true, false}
+use mathlib.Core.List.{List, [], _∷_, _++_}
+use lib.Dec.{eqb}
+use lib.ListN.{getD, take, drop, replicate}
+use lib.Seq.{sets}
+use Rattle.words.specs.Pick.{pick, both}
+use Rattle.words.specs.Whole.{signed, kept, overflows, spread}
+use Rattle.words.specs.Codes.{signCode, zeroCode}
+use Rattle.words.specs.Combine.{signedResult, carried, combineOf, shiftedLeft}
+use Rattle.pages.specs.declared.Access.the-variants.{Load}
+use Rattle.pages.specs.declared.Look.{Look}
+use Rattle.pages.specs.declared.Look.the-variants.{At, Refused}
+use Rattle.pages.specs.Word.{bitU, bitS, bitE, bitM, bitH, bitsX, frame, pageOf, dispOf, next, base, real, wordOf, accessed, written}
+use Rattle.pages.specs.Tests as tests
+use Rattle.pages.specs.Look.{lookOf}
+use Rattle.pages.specs.Framed.{accessedAt, writtenAt, readByte, writeByte}
+use Rattle.code.specs.Table as code
+use Rattle.machine.specs.Prog.{interp}
+use Rattle.machine.specs.Run.{run}
+use Rattle.machine.specs.Fields.{looks, gets, puts, moves, loading, storing, halfword}
+use Rattle.machine.specs.Cpu.{reg, ahead, part, address}
+use Rattle.machine.specs.Branches.{chosen, link, lessOne, branch}
+use Rattle.machine.specs.Rr.{rr}
+use Rattle.machine.specs.Rx.{taken, rx}
+use Rattle.machine.specs.Rs.{rs}
+use Rattle.machine.specs.Ss.{ss}
+use Rattle.machine.specs.Step.{act, step}
+use Rattle.machine.specs.Machine.{Given, Outcome, given, proper, stepOutcome, runOutcome}
+
+-- the definitions that the cases compute
+unfoldable computes : Unit {0}
+unfolding signed kept overflows spread signCode zeroCode signedResult carried combineOf shiftedLeft
+    bitU bitS bitE bitM bitH bitsX frame pageOf dispOf next base real wordOf accessed written tests.table tests.tests lookOf
+    accessedAt writtenAt readByte writeByte code.table code.actionOf
+    interp run looks gets puts moves loading storing halfword reg ahead part address chosen link lessOne branch
+    rr taken rx rs ss act step proper stepOutcome runOutcome
+computes = tt
+
+-- n zeros, but these values from place i on
+abbrev laid : ℕ → ℕ → List ℕ → List ℕ
+laid n i vs = sets (replicate n 0) i vs
+
+-- 65,536 bytes with these from 12,288 on, where frame 3 begins; one page word; registers from 1 on; the counter; code and mask 0
+abbrev started : List ℕ → ℕ → ℕ → List ℕ → ℕ → Given
+started bytes page word regs pc = given (laid 65536 12288 bytes) (laid 512 page (word ∷ [])) (laid 16 1 regs) pc 0 0
+
+-- one step with these bytes in page 10, from its first on: the instruction, and perhaps its operand
+abbrev doing : ℕ → List ℕ → List ℕ → Outcome
+doing word bytes regs = stepOutcome (started bytes 10 word regs 0xa000)
+
+-- the whole case's instruction, LA 1,5, with the counter at 00A000
+abbrev whole : ℕ → ℕ → Given
+whole page word = started (0x41 ∷ 0x10 ∷ 0x00 ∷ 0x05 ∷ []) page word [] 0xa000
+
+-- number, place, count, counter, code, register 1, and the word of a page
+abbrev seen : ℕ → Outcome → List ℕ
+seen page o =
+    o .reply .number
+    ∷ o .reply .place
+    ∷ o .reply .count
+    ∷ o .reply .pc
+    ∷ o .reply .code
+    ∷ getD (o .regs) 1 0
+    ∷ getD (o .map) page 0
+    ∷ []
+
+-- the same of page 10, and the six bytes eight on from its first
+abbrev moved : Outcome → List ℕ
+moved o = seen 10 o ++ take 6 (drop 12296 (o .mem))
+
+-- a look-up's number and its real address, or the place of its refusal
+abbrev found : Look → List ℕ
+found (At r) = 0 ∷ r ∷ []
+found (Refused c a) = tests.numberOf c ∷ a ∷ []
+
+-- a load's look-up in memory of 65,536 bytes, with one page word
+abbrev looked : ℕ → ℕ → ℕ → List ℕ
+looked page word a = found (lookOf (laid 512 page (word ∷ [])) 65536 Load a)
+
+record Case : Type 0 where
+  answer : List ℕ
+  expected : List ℕ
+
+abbrev case : List ℕ → List ℕ → Case
+case a e = record { answer = a; expected = e }
+
+abbrev starred : List Case
+starred =
+    -- 0: page 10 absent, page 110 word 3003
+    case (seen 110 (runOutcome 1 (whole 110 0x3003))) (3 ∷ 0xa000 ∷ 0 ∷ 0xa000 ∷ 0 ∷ 0 ∷ 0x3003 ∷ [])
+    -- 1, 2: the whole case with RUN 1 and with RUN 2
+    ∷ case (seen 10 (runOutcome 1 (whole 10 0x3003))) (7 ∷ 0 ∷ 1 ∷ 0xa004 ∷ 0 ∷ 5 ∷ 0x7003 ∷ [])
+    ∷ case (seen 10 (runOutcome 2 (whole 10 0x3003))) (5 ∷ 0xa004 ∷ 1 ∷ 0xa004 ∷ 0 ∷ 5 ∷ 0x7003 ∷ [])
+    -- 3, 4: word 3403, displacement 2,047 and 2,048
+    ∷ case (looked 10 0x3403 0xa7ff) (0 ∷ 14335 ∷ [])
+    ∷ case (looked 10 0x3403 0xa800) (4 ∷ 0xa800 ∷ [])
+    -- 5: word 3603, displacement 0
+    ∷ case (looked 10 0x3603 0xa000) (0 ∷ 14336 ∷ [])
+    -- 6, 7: word 3803: L 1,8(2) and ST 1,8(2)
+    ∷ case (seen 10 (doing 0x3803 (0x58 ∷ 0x10 ∷ 0x20 ∷ 0x08 ∷ 0 ∷ 0 ∷ 0 ∷ 0 ∷ 0x12 ∷ 0x34 ∷ 0x56 ∷ 0x78 ∷ []) (0 ∷ 0xa000 ∷ [])))
+    (0 ∷ 0 ∷ 1 ∷ 0xa004 ∷ 0 ∷ 0x12345678 ∷ 0x7803 ∷ [])
+    ∷ case (seen 10 (doing 0x3803 (0x50 ∷ 0x10 ∷ 0x20 ∷ 0x08 ∷ []) (9 ∷ 0xa000 ∷ [])))
+    (4 ∷ 0xa008 ∷ 0 ∷ 0xa000 ∷ 0 ∷ 9 ∷ 0x3803 ∷ [])
+    -- 8: word 1043: U is tested before X
+    ∷ case (seen 10 (stepOutcome (whole 10 0x1043))) (3 ∷ 0xa000 ∷ 0 ∷ 0xa000 ∷ 0 ∷ 0 ∷ 0x1043 ∷ [])
+    -- 9: word 3010 with 65,536 bytes
+    ∷ case (seen 10 (stepOutcome (whole 10 0x3010))) (1 ∷ 0xa000 ∷ 0 ∷ 0xa000 ∷ 0 ∷ 0 ∷ 0x3010 ∷ [])
+    -- 10: AR 1,2: 7FFFFFFF + 1
+    ∷ case (seen 10 (doing 0x3003 (0x1a ∷ 0x12 ∷ []) (0x7fffffff ∷ 1 ∷ []))) (0 ∷ 0 ∷ 1 ∷ 0xa002 ∷ 3 ∷ 0x80000000 ∷ 0x7003 ∷ [])
+    -- 11, 12: ALR 1,2: FFFFFFFF + 1 and FFFFFFFF + 2
+    ∷ case (seen 10 (doing 0x3003 (0x1e ∷ 0x12 ∷ []) (0xffffffff ∷ 1 ∷ []))) (0 ∷ 0 ∷ 1 ∷ 0xa002 ∷ 2 ∷ 0 ∷ 0x7003 ∷ [])
+    ∷ case (seen 10 (doing 0x3003 (0x1e ∷ 0x12 ∷ []) (0xffffffff ∷ 2 ∷ []))) (0 ∷ 0 ∷ 1 ∷ 0xa002 ∷ 3 ∷ 1 ∷ 0x7003 ∷ [])
+    -- 13: BALR 1,2: the link, and on to 00C000, which is in no page
+    ∷ case (seen 10 (doing 0x3003 (0x05 ∷ 0x12 ∷ []) (0 ∷ 0xc000 ∷ []))) (0 ∷ 0 ∷ 1 ∷ 0xc000 ∷ 0 ∷ 0x4000a002 ∷ 0x7003 ∷ [])
+    ∷ []
+
+-- document 01's others
+abbrev unstarred : List Case
+unstarred =
+    -- 14, 15: words 2003 and 3043
+    case (seen 10 (stepOutcome (whole 10 0x2003))) (4 ∷ 0xa000 ∷ 0 ∷ 0xa000 ∷ 0 ∷ 0 ∷ 0x2003 ∷ [])
+    ∷ case (seen 10 (stepOutcome (whole 10 0x3043))) (4 ∷ 0xa000 ∷ 0 ∷ 0xa000 ∷ 0 ∷ 0 ∷ 0x3043 ∷ [])
+    -- 16, 17: 1FFFFF is in page 511; 200000
+    ∷ case (looked 511 0x3003 0x1fffff) (0 ∷ 16383 ∷ [])
+    ∷ case (looked 511 0x3003 0x200000) (1 ∷ 0x200000 ∷ [])
+    -- 18: LA at 00AFFE, page 11 absent
+    ∷ case (seen 10 (stepOutcome (given (laid 65536 16382 (0x41 ∷ 0x10 ∷ [])) (laid 512 10 (0x3003 ∷ [])) (laid 16 1 []) 0xaffe 0 0)))
+    (3 ∷ 0xb000 ∷ 0 ∷ 0xaffe ∷ 0 ∷ 0 ∷ 0x3003 ∷ [])
+    -- 19: LCR 1,2 of 80000000
+    ∷ case (seen 10 (doing 0x3003 (0x13 ∷ 0x12 ∷ []) (0 ∷ 0x80000000 ∷ []))) (0 ∷ 0 ∷ 1 ∷ 0xa002 ∷ 3 ∷ 0x80000000 ∷ 0x7003 ∷ [])
+    -- 20: MVC 9(4,2),8(2): one byte right of its source
+    ∷ case (moved (doing 0x3003 (0xd2 ∷ 0x03 ∷ 0x20 ∷ 0x09 ∷ 0x20 ∷ 0x08 ∷ 0 ∷ 0 ∷ 0x5a ∷ 1 ∷ 2 ∷ 3 ∷ 4 ∷ 6 ∷ []) (0 ∷ 0xa000 ∷ [])))
+    (0 ∷ 0 ∷ 1 ∷ 0xa006 ∷ 0 ∷ 0 ∷ 0xf003 ∷ 0x5a ∷ 0x5a ∷ 0x5a ∷ 0x5a ∷ 0x5a ∷ 6 ∷ [])
+    -- 21: BCTR 1,2 on 0
+    ∷ case (seen 10 (doing 0x3003 (0x06 ∷ 0x12 ∷ []) (0 ∷ 0xc000 ∷ []))) (0 ∷ 0 ∷ 1 ∷ 0xc000 ∷ 0 ∷ 0xffffffff ∷ 0x7003 ∷ [])
+    -- 22: LH 1,8(2) of 8000
+    ∷ case (seen 10 (doing 0x3003 (0x48 ∷ 0x10 ∷ 0x20 ∷ 0x08 ∷ 0 ∷ 0 ∷ 0 ∷ 0 ∷ 0x80 ∷ 0 ∷ []) (0 ∷ 0xa000 ∷ [])))
+    (0 ∷ 0 ∷ 1 ∷ 0xa004 ∷ 0 ∷ 0xffff8000 ∷ 0x7003 ∷ [])
+    -- 23: SLL 1,32
+    ∷ case (seen 10 (doing 0x3003 (0x89 ∷ 0x10 ∷ 0x00 ∷ 0x20 ∷ []) (0xffffffff ∷ []))) (0 ∷ 0 ∷ 1 ∷ 0xa004 ∷ 0 ∷ 0 ∷ 0x7003 ∷ [])
+    ∷ []
+
+-- not in its list: which end of a branch's mask comes first, and the first test of a step
+abbrev beside : List Case
+beside =
+    -- 24: BC 8,0(2) with code 0
+    case (seen 10 (doing 0x3003 (0x47 ∷ 0x80 ∷ 0x20 ∷ 0x00 ∷ []) (0 ∷ 0xc000 ∷ []))) (0 ∷ 0 ∷ 1 ∷ 0xc000 ∷ 0 ∷ 0 ∷ 0x7003 ∷ [])
+    -- 25: an odd counter, in no page
+    ∷ case (seen 10 (stepOutcome (started [] 110 0x3003 [] 0xa001))) (2 ∷ 0xa001 ∷ 0 ∷ 0xa001 ∷ 0 ∷ 0 ∷ 0 ∷ [])
+    ∷ []
+
+abbrev cases : List Case
+cases = starred ++ unstarred ++ beside
+
+abbrev same : List ℕ → List ℕ → Bool
+same [] [] = true
+same [] (y ∷ ys) = false
+same (x ∷ xs) [] = false
+same (x ∷ xs) (y ∷ ys) = both (eqb x y) (same xs ys)
+
+-- the places, from n on, of the cases whose answer is not the expected one
+abbrev failing : ℕ → List Case → List ℕ
+failing n [] = []
+failing n (c ∷ cs) = let rest = failing (suc n) cs in pick (same (c .answer) (c .expected)) rest (n ∷ rest)
+
+all-pass : failing 0 cases ≡ []
+unfolding computes
+all-pass = refl

@@ -1,0 +1,4 @@
+pub mod Late
+pub mod Behind
+pub mod Sure
+mod Cases

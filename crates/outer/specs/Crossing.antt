@@ -1,0 +1,47 @@
+-- What the caller of a linked function has afterwards: the function's own number, and the lists that it lent.
+use Prim.Native.Nat.{ℕ}
+use mathlib.Core.List.{List, [], _∷_}
+use lib.Dec.{eqb}
+use lib.ListN.{length, getD}
+use Rattle.words.specs.Pick.{pick}
+use Rattle.machine.specs.declared.Reply.{Reply}
+use Rattle.machine.specs.Machine.{Given, Outcome, given, stepOutcome, runOutcome}
+use Rattle.printing.specs.declared.Text.{Text}
+use Rattle.printing.specs.Answer.{textOf}
+use Rattle.sheet.specs.Sheet.{answerOf}
+
+pub record Crossed : Type 0 where
+  pub number : ℕ
+  pub mem : List ℕ
+  pub map : List ℕ
+  pub regs : List ℕ
+  pub reply : List ℕ
+
+abbrev pub crossed : ℕ → List ℕ → List ℕ → List ℕ → List ℕ → Crossed
+crossed n mem map regs reply =
+    record { number = n; mem = mem; map = map; regs = regs; reply = reply }
+
+-- a reply as a list of six: number, place, count, counter, code, mask
+abbrev pub six : Reply → List ℕ
+six r = r .number ∷ r .place ∷ r .count ∷ r .pc ∷ r .code ∷ r .mask ∷ []
+
+-- the machine that is lent: counter, code and mask are the last three of the reply's six
+abbrev pub lent : List ℕ → List ℕ → List ℕ → List ℕ → Given
+lent mem map regs reply = given mem map regs (getD reply 3 0) (getD reply 4 0) (getD reply 5 0)
+
+abbrev pub handedBack : Outcome → Crossed
+handedBack o = crossed (o .reply .number) (o .mem) (o .map) (o .regs) (six (o .reply))
+
+-- a single step, and a run; where the reply has not six places, number 6 and nothing altered
+unfoldable pub stepCrossed : List ℕ → List ℕ → List ℕ → List ℕ → Crossed
+stepCrossed mem map regs reply =
+    pick (eqb (length reply) 6) (handedBack (stepOutcome (lent mem map regs reply))) (crossed 6 mem map regs reply)
+
+unfoldable pub runCrossed : ℕ → List ℕ → List ℕ → List ℕ → List ℕ → Crossed
+runCrossed budget mem map regs reply =
+    pick (eqb (length reply) 6) (handedBack (runOutcome budget (lent mem map regs reply))) (crossed 6 mem map regs reply)
+
+-- a sheet's answer with zeros after it, in a room of 8,192 bytes; a room of another size is left alone, with length 0
+unfoldable pub sheetCrossed : List ℕ → List ℕ → Text
+sheetCrossed sheet room =
+    pick (eqb (length room) 8192) (textOf (answerOf sheet)) (record { bytes = room; len = 0 })

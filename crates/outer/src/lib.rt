@@ -1,0 +1,72 @@
+// The engine for programs in other languages to link: a single step, a run, and a sheet's answer. Only numbers and slices cross.
+use machine::Reply;
+ghost use mathlib.Core.Path.{_≡_};
+ghost use lib.Dec.{eqb};
+ghost use lib.ListN.{length};
+ghost use Rattle.words.specs.Pick.{pick};
+ghost use Rattle.outer.specs.Crossing.{crossed, six, stepCrossed, runCrossed, sheetCrossed};
+
+// The six numbers of a reply, into six places.
+fn put_reply(reply: &mut [u32], r: Reply)
+    ensures { λ _. ⌜ now (reply .exit) ≡ pick (eqb (length (now (reply .entry))) 6) (six r) (now (reply .entry)) ⌝ }
+{
+    if reply.len() == 6 {
+        reply[0] = r.number;
+        reply[1] = r.place;
+        reply[2] = r.count;
+        reply[3] = r.pc;
+        reply[4] = r.code;
+        reply[5] = r.mask;
+    }
+}
+
+// One step. `reply` has counter, code and mask in its last three places, and on return all six numbers.
+#[no_mangle]
+pub extern "C" fn spectra46_step(
+    mem: &mut [u8],
+    map: &mut [u16],
+    regs: &mut [u32],
+    reply: &mut [u32],
+) -> u32
+    ensures { λ r. ⌜ crossed r (now (mem .exit)) (now (map .exit)) (now (regs .exit)) (now (reply .exit)) ≡ stepCrossed (now (mem .entry)) (now (map .entry)) (now (regs .entry)) (now (reply .entry)) ⌝ }
+{
+    if reply.len() != 6 {
+        return 6;
+    }
+    let r = engine::step(mem, map, regs, reply[3], reply[4], reply[5]);
+    put_reply(reply, r);
+    r.number
+}
+
+// At most `budget` steps; `reply` as for a step.
+#[no_mangle]
+pub extern "C" fn spectra46_run(
+    mem: &mut [u8],
+    map: &mut [u16],
+    regs: &mut [u32],
+    reply: &mut [u32],
+    budget: u32,
+) -> u32
+    ensures { λ r. ⌜ crossed r (now (mem .exit)) (now (map .exit)) (now (regs .exit)) (now (reply .exit)) ≡ runCrossed budget (now (mem .entry)) (now (map .entry)) (now (regs .entry)) (now (reply .entry)) ⌝ }
+{
+    if reply.len() != 6 {
+        return 6;
+    }
+    let r = engine::run(mem, map, regs, reply[3], reply[4], reply[5], budget);
+    put_reply(reply, r);
+    r.number
+}
+
+// A sheet's answer into a room of 8,192 bytes, and its length; 0 where the room has another size.
+#[no_mangle]
+pub extern "C" fn spectra46_sheet(sheet: &[u8], room: &mut [u8]) -> usize
+    ensures { λ r. ⌜ record { bytes = now (room .exit); len = r } ≡ sheetCrossed (now (sheet .entry)) (now (room .entry)) ⌝ }
+{
+    if room.len() != 8192 {
+        return 0;
+    }
+    let text = sheet::answer(sheet);
+    let bytes = text.bytes;
+    printing::writing::put_all(room, 0, &bytes);
+    text.len
+}

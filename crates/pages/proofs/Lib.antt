@@ -1,0 +1,3 @@
+pub mod LookLaws
+pub mod StoreLaws
+pub mod Marks

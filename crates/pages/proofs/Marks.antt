@@ -1,0 +1,134 @@
+-- Marks change nothing but marks: no bit that a look-up tests, no real address; and two marks may be set in either order.
+use Prim.Native.Nat.{ℕ, _<_, _≤_, _/_, _%_, _*_, _+_}
+use native.Mathlib.Omega.{arith}
+use native.Mathlib.Nat.{div-add-mod'}
+use native.Mathlib.Decide.{ℕ-discrete, decLt}
+use mathlib.Core.Path.{_≡_, refl, sym, _∙_, ap, subst}
+use mathlib.Core.Logic.{_≢_}
+use mathlib.Core.List.{List}
+use lib.ListN.{length, getD, set, length-set, List·getD-eq-default}
+use lib.Seq.{getD-set-same, getD-set-other, set-out, set-set, set-comm}
+use Rattle.pages.specs.declared.Access.{Access}
+use Rattle.pages.specs.Word.{bitU, bitS, bitE, bitM, bitH, bitsX, frame, base, size, real, wordOf, pageOf, dispOf, accessed, written}
+use Rattle.pages.specs.Tests.{tests, table}
+use Rattle.pages.specs.Look.{lookOf, within}
+use Rattle.pages.specs.Framed.{accessedAt, writtenAt}
+
+-- a change of a word that leaves all but W and G
+pub record Quiet (f : ℕ → ℕ) : Type 0 where
+  pub u : (w : ℕ) → bitU (f w) ≡ bitU w
+  pub s : (w : ℕ) → bitS (f w) ≡ bitS w
+  pub e : (w : ℕ) → bitE (f w) ≡ bitE w
+  pub m : (w : ℕ) → bitM (f w) ≡ bitM w
+  pub h : (w : ℕ) → bitH (f w) ≡ bitH w
+  pub x : (w : ℕ) → bitsX (f w) ≡ bitsX w
+  pub p : (w : ℕ) → frame (f w) ≡ frame w
+
+low : (f : ℕ → ℕ) → ((w : ℕ) → f w % 16384 ≡ w % 16384) → Quiet f
+unfolding bitU bitS bitE bitM bitH bitsX frame
+low f k =
+    record {
+      u = λ w. omega (arith, k w);
+      s = λ w. omega (arith, k w);
+      e = λ w. omega (arith, k w);
+      m = λ w. omega (arith, k w);
+      h = λ w. omega (arith, k w);
+      x = λ w. omega (arith, k w);
+      p = λ w. omega (arith, k w);
+    }
+
+pub accessed-quiet : Quiet accessed
+unfolding accessed
+accessed-quiet = low accessed (λ w. omega arith)
+
+pub written-quiet : Quiet written
+unfolding written
+written-quiet = low written (λ w. omega arith)
+
+module _ (f : ℕ → ℕ) (q : Quiet f) where
+  pub tests-quiet : (acc : Access) (a w : ℕ) → tests acc a (f w) ≡ tests acc a w
+  unfolding tests table
+  tests-quiet acc a w = rw (q .u w, q .x w, q .m w, q .s w, q .e w)
+
+  pub base-quiet : (w : ℕ) → base (f w) ≡ base w
+  unfolding base
+  base-quiet w = rw (q .p w, q .m w, q .h w)
+
+  pub size-quiet : (w : ℕ) → size (f w) ≡ size w
+  unfolding size
+  size-quiet w = rw (q .m w)
+
+  pub real-quiet : (d w : ℕ) → real (f w) d ≡ real w d
+  unfolding real
+  real-quiet d w = rw (base-quiet w)
+
+-- the map with the word of page p changed by f
+abbrev pub changed : (ℕ → ℕ) → ℕ → List ℕ → List ℕ
+changed f p map = set map p (f (wordOf map p))
+
+-- what a change leaves of a word it leaves of every page's word
+pub changed-keeps : {X : Type 0} (f : ℕ → ℕ) (g : ℕ → X) → ((w : ℕ) → g (f w) ≡ g w)
+    → (map : List ℕ) (p r : ℕ) → g (wordOf (changed f p map) r) ≡ g (wordOf map r)
+unfolding wordOf
+changed-keeps f g k map p r = same (ℕ-discrete r p)
+  where
+    in-map : Dec (p < length map) → g (getD (set map p (f (getD map p 0))) p 0) ≡ g (getD map p 0)
+    in-map (yes h) = ap g (getD-set-same map p (f (getD map p 0)) 0 h) ∙ k (getD map p 0)
+    in-map (no h) =
+        let o : length map ≤ p = omega arith in
+        ap (λ (m : List ℕ). g (getD m p 0)) (set-out map p (f (getD map p 0)) o)
+
+    same : Dec (r ≡ p) → g (getD (set map p (f (getD map p 0))) r 0) ≡ g (getD map r 0)
+    same (yes e) =
+        subst
+        (λ (t : ℕ). g (getD (set map p (f (getD map p 0))) t 0) ≡ g (getD map t 0))
+        (sym e)
+        (in-map (decLt p (length map)))
+    same (no e) = ap g (getD-set-other map p r (f (getD map p 0)) 0 e)
+
+pub look-quiet : (f : ℕ → ℕ) → Quiet f → (map : List ℕ) (p n : ℕ) (acc : Access) (a : ℕ)
+    → lookOf (changed f p map) n acc a ≡ lookOf map n acc a
+unfolding lookOf
+look-quiet f q map p n acc a =
+    rw
+    (changed-keeps f (λ (w : ℕ). tests acc a w) (tests-quiet f q acc a) map p (pageOf a), changed-keeps f (λ (w : ℕ). real w (dispOf a)) (real-quiet f q (dispOf a)) map p (pageOf a))
+
+pub changed-length : (f : ℕ → ℕ) (p : ℕ) (map : List ℕ) → length (changed f p map) ≡ length map
+changed-length f p map = length-set map p (f (wordOf map p))
+
+-- two changes that commute on a word commute on the map
+pub changed-comm : (f g : ℕ → ℕ) → ((w : ℕ) → f (g w) ≡ g (f w)) → (p r : ℕ) (map : List ℕ)
+    → changed f p (changed g r map) ≡ changed g r (changed f p map)
+unfolding wordOf
+changed-comm f g k p r map = same (ℕ-discrete p r)
+  where
+    w : ℕ
+    w = getD map p 0
+
+    twice : (x y : ℕ → ℕ) → p < length map → set (set map p (x w)) p (y (getD (set map p (x w)) p 0)) ≡ set map p (y (x w))
+    twice x y h =
+        ap (λ (v : ℕ). set (set map p (x w)) p (y v)) (getD-set-same map p (x w) 0 h) ∙ set-set map p (x w) (y (x w))
+
+    never : (x y : ℕ → ℕ) → length map ≤ p → set (set map p (x w)) p (y (getD (set map p (x w)) p 0)) ≡ map
+    never x y h =
+        ap (λ (m : List ℕ). set m p (y (getD m p 0))) (set-out map p (x w) h) ∙ set-out map p (y w) h
+
+    here : Dec (p < length map) → set (set map p (g w)) p (f (getD (set map p (g w)) p 0)) ≡ set (set map p (f w)) p (g (getD (set map p (f w)) p 0))
+    here (yes h) = twice g f h ∙ ap (λ (v : ℕ). set map p v) (k w) ∙ sym (twice f g h)
+    here (no h) = let o : length map ≤ p = omega arith in never g f o ∙ sym (never f g o)
+
+    same : Dec (p ≡ r) → changed f p (changed g r map) ≡ changed g r (changed f p map)
+    same (yes e) =
+        subst
+        (λ (t : ℕ). set (set map t (g (getD map t 0))) p (f (getD (set map t (g (getD map t 0))) p 0))
+        ≡ set (set map p (f w)) t (g (getD (set map p (f w)) t 0)))
+        e
+        (here (decLt p (length map)))
+    same (no e) =
+        ap (λ (v : ℕ). set (set map r (g (getD map r 0))) p (f v)) (getD-set-other map r p (g (getD map r 0)) 0 e)
+        ∙ sym (set-comm map p r (f w) (g (getD map r 0)) e)
+        ∙ ap (λ (v : ℕ). set (set map p (f w)) r (g v)) (sym (getD-set-other map p r (f w) 0 (λ q. e (sym q))))
+
+pub accessed-written : (w : ℕ) → accessed (written w) ≡ written (accessed w)
+unfolding accessed written
+accessed-written w = omega arith

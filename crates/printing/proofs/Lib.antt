@@ -1,0 +1,9 @@
+-- What the proofs of printing share.
+pub mod Laid
+pub mod Turns
+pub mod Places
+pub mod Joined
+pub mod Lengths
+pub mod Filled
+pub mod Cases
+mod Only

@@ -1,0 +1,6 @@
+-- The answer's text (document 01, "The bench sheet").
+pub mod Ascii
+pub mod Digits
+pub mod Lines
+pub mod Answer
+pub mod Writing

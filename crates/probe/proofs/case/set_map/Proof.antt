@@ -1,0 +1,72 @@
+-- The measure is how many page words are left.
+use mathlib.Core.Path.{_≡_}
+use Prim.Native.Nat.{_-_}
+use lib.ListN.{length}
+use borrow.Author.Needs.{needs}
+use Rattle.probe.proofs.case.set_map.Statement.{statement}
+use Rattle.probe.proofs.case.set_map.Tie as tie
+
+abbrev Inv-loop : tie.InvT-loop
+Inv-loop map₀ bytes i₀ map i = length map ≡ length map₀
+
+abbrev μ-loop : tie.MeasureT-loop
+μ-loop map₀ bytes i₀ map i = length map₀ - i
+
+loop-holds : tie.Need-loop-holds Inv-loop μ-loop
+loop-holds c = search needs
+
+mul-number : tie.Need-mul-number Inv-loop μ-loop
+mul-number c = search needs
+
+mul-number-2 : tie.Need-mul-number-2 Inv-loop μ-loop
+mul-number-2 c = search needs
+
+add-number : tie.Need-add-number Inv-loop μ-loop
+add-number c = search needs
+
+number-requires : tie.Need-number-requires Inv-loop μ-loop
+number-requires c κs = search needs
+
+cast-map : tie.Need-cast-map Inv-loop μ-loop
+cast-map c = search needs
+
+mul-map : tie.Need-mul-map Inv-loop μ-loop
+mul-map c = search needs
+
+slice-write-map : tie.Need-slice-write-map Inv-loop μ-loop
+slice-write-map c = search needs
+
+add-i : tie.Need-add-i Inv-loop μ-loop
+add-i c = search needs
+
+loop-less : tie.Need-loop-less Inv-loop μ-loop
+loop-less c = search needs
+
+loop-again : tie.Need-loop-again Inv-loop μ-loop
+loop-again c = search needs
+
+same-length : tie.Need-same-length Inv-loop μ-loop
+same-length c = search needs
+
+returns : tie.Need-returns Inv-loop μ-loop
+returns c = search needs
+
+pub set-map-spec : {M : Type 1} → statement M
+set-map-spec =
+    tie.close
+    (tie.spec
+    Inv-loop
+    μ-loop
+    loop-holds
+    mul-number
+    mul-number-2
+    add-number
+    number-requires
+    cast-map
+    mul-map
+    slice-write-map
+    add-i
+    loop-less
+    loop-again
+    same-length
+    returns)

@@ -1,0 +1,10 @@
+-- Laws that the functions' proofs cite.
+mod Cuts
+mod Numbers
+mod Names
+mod Lines
+mod Pairs
+mod Taking
+mod Walks
+mod Cases
+mod Only

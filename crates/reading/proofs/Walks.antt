@@ -1,0 +1,139 @@
+-- A sheet line by line.
+use mathlib.Core.Path.{_≡_, refl, ap, _∙_}
+use mathlib.Core.Bool.{Bool, true, false}
+use mathlib.Core.List.{List, [], _∷_}
+use Prim.Native.Nat.{ℕ, suc, _+_, _-_, _≤_, _<_}
+use native.Mathlib.Omega.{arith}
+use lib.Dec.{eqb}
+use lib.ListN.{length, replicate, take, drop, drop-of-length-le, length-drop}
+use lib.Seq.{take-all, length-take-le, drop-drop}
+use borrow.Author.Tests.{le-ltb, lt-ltb, eq-eqb, ne-eqb}
+use Rattle.words.specs.Pick.{pick}
+use Rattle.reading.specs.Cut.{span, before, after, count}
+use Rattle.reading.specs.Line.{lineOf}
+use Rattle.reading.specs.Sheet.{Reading, bad, good, State, Next, off, on, takeLine, afterLine, readLines, readOnto}
+use Rattle.reading.specs.Within.{stateOf, stays, goes, stepped, asStepped}
+use Rattle.reading.specs.declared.sheet.Progress.{Progress}
+use Rattle.reading.specs.declared.sheet.Step.{Step}
+use Rattle.reading.specs.declared.sheet.Step.the-variants.{Off, On}
+
+-- ---- marks that are counted
+pub span-within : (mark : ℕ) (bs : List ℕ) → span mark bs ≤ length bs
+unfolding span
+span-within mark [] = omega arith
+span-within mark (b ∷ bs) = go (eqb b mark) (span-within mark bs)
+  where
+    go : (t : Bool) → span mark bs ≤ length bs → pick t 0 (suc (span mark bs)) ≤ suc (length bs)
+    go true h = omega arith
+    go false h = omega arith
+
+count-none : (mark : ℕ) (bs : List ℕ) → length bs ≤ span mark bs → count mark bs ≡ 0
+unfolding span count
+count-none mark [] h = refl
+count-none mark (b ∷ bs) h = go (eqb b mark) h (count-none mark bs)
+  where
+    go : (t : Bool) → suc (length bs) ≤ pick t 0 (suc (span mark bs)) → (length bs ≤ span mark bs → count mark bs ≡ 0)
+        → pick t (suc (count mark bs)) (count mark bs) ≡ 0
+    go true k ih = absurd (omega arith)
+    go false k ih = ih (omega arith)
+
+count-some : (mark : ℕ) (bs : List ℕ) → span mark bs < length bs → count mark bs ≡ suc (count mark (after mark bs))
+unfolding span count after
+count-some mark [] h = absurd (omega arith)
+count-some mark (b ∷ bs) h = go (eqb b mark) h (count-some mark bs)
+  where
+    go : (t : Bool) → pick t 0 (suc (span mark bs)) < suc (length bs) → (span mark bs < length bs → count mark bs ≡ suc (count mark (after mark bs)))
+        → pick t (suc (count mark bs)) (count mark bs) ≡ suc (count mark (drop (pick t 0 (suc (span mark bs)) + 1) (b ∷ bs)))
+    go true k ih = refl
+    go false k ih =
+        let e : suc (span mark bs) + 1 ≡ suc (span mark bs + 1) = omega arith in
+        rw e (unfold after in ih (omega arith))
+
+-- ---- one line more
+module _ (n : ℕ) (s : State) (x : Next) (go : State → Reading) where
+  stayed : (mem map regs : List ℕ) → stays mem map regs ≡ stepped s x → bad n mem map regs ≡ afterLine n s x go
+  stayed mem map regs e = by x e
+    where
+      by : (y : Next) → stays mem map regs ≡ stepped s y → bad n mem map regs ≡ afterLine n s y go
+      by off f = cc
+      by (on t) f = absurd (let z : _≡_ {A = ℕ} 0 1 = cc in omega arith)
+
+  went : (t : State) → goes t ≡ stepped s x → afterLine n s x go ≡ go t
+  went t e = by x e
+    where
+      by : (y : Next) → goes t ≡ stepped s y → afterLine n s y go ≡ go t
+      by off f = absurd (let z : _≡_ {A = ℕ} 0 1 = cc in omega arith)
+      by (on u) f = cc
+
+module _ (whole : Reading) (s : List ℕ) (n at : ℕ) (p : Progress) (mem map regs pages named : List ℕ)
+    (inv : whole ≡ readLines (count 10 (drop at s)) n (drop at s) (stateOf p mem map regs pages named)) where
+  module _ (h : length s ≤ at) where
+    pub read-good : p .stage ≡ 4
+        → good (record { mem = mem; map = map; regs = regs; pc = p .pc; code = p .code; mask = p .mask; budget = p .budget }) ≡ whole
+    unfolding readLines count
+    read-good e = rw (inv, drop-of-length-le s h, eq-eqb _ _ e)
+
+    pub read-missing : (p .stage ≡ 4 → ⊥) → bad n mem map regs ≡ whole
+    unfolding readLines count
+    read-missing e = rw (inv, drop-of-length-le s h, ne-eqb _ _ e)
+
+  module _ (h : at < length s) (line : List ℕ) (cut : line ≡ before 10 (take (length s - at) (drop at s))) where
+    rest-is : take (length s - at) (drop at s) ≡ drop at s
+    rest-is = take-all (length s - at) (drop at s) (simp length-drop (omega arith))
+
+    cut-is : line ≡ before 10 (drop at s)
+    cut-is = cut ∙ ap (λ (t : List ℕ). before 10 t) rest-is
+
+    long : length line ≡ span 10 (drop at s)
+    unfolding before
+    long = rw cut-is (length-take-le (span 10 (drop at s)) (drop at s) (span-within 10 (drop at s)))
+
+    rest-long : length (take (length s - at) (drop at s)) ≡ length (drop at s)
+    rest-long = ap length rest-is
+
+    some-left : 0 < length (drop at s)
+    some-left = simp length-drop (omega arith)
+
+    pub read-unended : length line ≡ length (take (length s - at) (drop at s)) → bad n mem map regs ≡ whole
+    unfolding readLines
+    read-unended e =
+        let k : length (drop at s) ≤ span 10 (drop at s) = omega (arith, long, rest-long) in
+        let l : length (drop at s) ≡ 0 → ⊥ = λ z. omega (arith, some-left) in
+        rw (inv, count-none 10 (drop at s) k, ne-eqb (length (drop at s)) 0 l)
+
+    module _ (e : length line ≡ length (take (length s - at) (drop at s)) → ⊥) where
+      ended : span 10 (drop at s) < length (drop at s)
+      ended = omega (arith, long, rest-long, span-within 10 (drop at s), e)
+
+      pub read-within : at + length line + 1 ≤ length s
+      read-within = omega (arith, long, ended, length-drop at s)
+
+      step-is : whole ≡ afterLine n (stateOf p mem map regs pages named) (takeLine (lineOf line) (stateOf p mem map regs pages named)) (λ (t : State). readLines (count 10 (after 10 (drop at s))) (n + 1) (after 10 (drop at s)) t)
+      unfolding readLines
+      step-is = rw (inv, count-some 10 (drop at s) ended, cut-is)
+
+      module _ (r : Step) (mem′ map′ regs′ pages′ named′ : List ℕ)
+          (took : asStepped r mem′ map′ regs′ pages′ named′ ≡ stepped (stateOf p mem map regs pages named) (takeLine (lineOf line) (stateOf p mem map regs pages named))) where
+        pub read-off : r ≡ Off → bad n mem′ map′ regs′ ≡ whole
+        read-off f = rw step-is (stayed n (stateOf p mem map regs pages named) (takeLine (lineOf line) (stateOf p mem map regs pages named)) _ mem′ map′ regs′ (rw f at took))
+
+        pub read-turn : (q : Progress) → r ≡ On q
+            → whole ≡ readLines (count 10 (drop (at + length line + 1) s)) (n + 1) (drop (at + length line + 1) s) (stateOf q mem′ map′ regs′ pages′ named′)
+        unfolding after
+        read-turn q f =
+            let k : at + (span 10 (drop at s) + 1) ≡ at + length line + 1 = omega (arith, long) in
+            step-is
+            ∙ went n (stateOf p mem map regs pages named) (takeLine (lineOf line) (stateOf p mem map regs pages named)) _ _ (rw f at took)
+            ∙ rw (drop-drop (span 10 (drop at s) + 1) at s, k)
+
+-- ---- a whole sheet
+module _ (mem map regs s : List ℕ) where
+  pub read-long : 65536 < length s → bad 0 mem map regs ≡ readOnto mem map regs s
+  unfolding readOnto
+  read-long h = rw (lt-ltb _ _ h)
+
+  pub read-all : length s ≤ 65536 → (x : Reading)
+      → x ≡ readLines (count 10 s) 1 s (stateOf (record { stage = 0; pc = 0; code = 0; mask = 0; budget = 0 }) mem map regs (replicate 512 0) (replicate 16 0))
+      → x ≡ readOnto mem map regs s
+  unfolding readOnto
+  read-all h x e = rw (le-ltb _ _ h) e

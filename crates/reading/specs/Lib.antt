@@ -1,0 +1,8 @@
+-- The bench sheet: from a sheet's bytes to the machine's setting, or to the number of its first bad line.
+pub mod Digits
+pub mod Cut
+pub mod Line
+pub mod Setting
+pub mod Sheet
+pub mod Told
+pub mod Within

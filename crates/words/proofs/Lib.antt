@@ -1,0 +1,8 @@
+-- What the proofs of words share.
+pub mod Choice
+pub mod Differences
+pub mod Lifted
+pub mod Results
+pub mod Told
+pub mod Shifts
+pub mod Cases

@@ -1,0 +1,23 @@
+use Rattle.words.proofs.Results.{positive-word}
+use borrow.Author.Needs.{needs}
+use Rattle.words.proofs.signed.positive.Statement.{statement}
+use Rattle.words.proofs.signed.positive.Tie as tie
+
+size-of-requires : tie.Need-size-of-requires
+size-of-requires c κs = search needs
+
+cast-result : tie.Need-cast-result
+cast-result c = search needs
+
+add-result : tie.Need-add-result
+add-result c = search needs
+
+result-requires : tie.Need-result-requires
+result-requires c κs = search needs
+
+returns : tie.Need-returns
+returns c = search positive-word
+
+pub positive-spec : {M : Type 1} → statement M
+positive-spec =
+    tie.close (tie.spec size-of-requires cast-result add-result result-requires returns)

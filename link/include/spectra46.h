@@ -1,0 +1,85 @@
+/* The Spectra 70/46 engine, as linked from libouter.a: a single step, a run, and a bench sheet's answer.
+ *
+ * Each list is a pointer and its number of elements. No pointer may be null, not even of an empty list; each must be aligned for
+ * its type; no list that a function may write to may overlap another list of the same call. The engine keeps nothing between two
+ * calls and never reads or writes beyond the lists, so calls with lists of their own may run at the same time.
+ *
+ * The machine that step and run are lent:
+ *
+ *   mem    real memory: 4,096 to 262,144 bytes, a multiple of 4,096
+ *   map    translation memory: 512 page words. From the leftmost bit: W written, G accessed, U usable, S nonprivileged, E not to
+ *          be written, M a 2,048-byte page, H its upper half, three X bits (zero), six bits of frame (a frame is 4,096 bytes)
+ *   regs   the 16 general registers
+ *   reply  six numbers:
+ *            reply[0]  out: the number (below)
+ *            reply[1]  out: the place, a 24-bit virtual address, or 0
+ *            reply[2]  out: the count, how many steps completed
+ *            reply[3]  in and out: the program counter, 0 to 16,777,215
+ *            reply[4]  in and out: the condition code, 0 to 3
+ *            reply[5]  in and out: the program mask, 0 to 15
+ *          What reply[0] to reply[2] hold before the call does not matter.
+ *
+ * The numbers, which a function also returns:
+ *
+ *   0  completed: a single step only. Place 0, count 1
+ *   1  addressing: an address of 2,097,152 or more, or a real address beyond memory. Place: the first failing byte
+ *   2  specification: an odd program counter, or an operand off its boundary. Place: the counter, or the operand's address
+ *   3  paging queue: the page is not usable (U reset). Place: the first failing byte
+ *   4  paging error: an X bit set, past the end of a 2,048-byte page, S reset, or a store where E is set. Place: the first failing
+ *      byte
+ *   5  the operation is not in the set. Place: the program counter
+ *   6  a list of the wrong length, or counter, code, mask or budget out of range. Place 0, count 0
+ *   7  the budget is spent: a run only. Place 0, count is the budget
+ *
+ * Numbers 1 to 6 alter nothing in the step that they refuse: memory, map, registers, counter, code and mask are as they were
+ * after the steps that count tells. */
+#ifndef SPECTRA46_H
+#define SPECTRA46_H
+
+#include <stddef.h>
+#include <stdint.h>
+
+#ifdef __cplusplus
+extern "C" {
+#endif
+
+enum {
+    SPECTRA46_COMPLETED = 0,
+    SPECTRA46_ADDRESSING = 1,
+    SPECTRA46_SPECIFICATION = 2,
+    SPECTRA46_PAGING_QUEUE = 3,
+    SPECTRA46_PAGING_ERROR = 4,
+    SPECTRA46_OPERATION = 5,
+    SPECTRA46_OUT_OF_RANGE = 6,
+    SPECTRA46_BUDGET_SPENT = 7
+};
+
+#define SPECTRA46_PAGES 512
+#define SPECTRA46_REGISTERS 16
+#define SPECTRA46_REPLY 6
+#define SPECTRA46_ROOM 8192
+
+/* One instruction. Returns 0 to 6.
+ * Where reply_len is not 6, returns 6 and writes nothing at all; any other 6 writes 6, 0, 0 to reply[0] to reply[2] and no more. */
+uint32_t spectra46_step(uint8_t *mem, size_t mem_len,
+                        uint16_t *map, size_t map_len,
+                        uint32_t *regs, size_t regs_len,
+                        uint32_t *reply, size_t reply_len);
+
+/* At most budget instructions, 0 to 65,535, up to the first refusal. Returns 1 to 7, and 7 with count 0 for budget 0.
+ * A reply_len that is not 6, and any other 6, are as for a step. */
+uint32_t spectra46_run(uint8_t *mem, size_t mem_len,
+                       uint16_t *map, size_t map_len,
+                       uint32_t *regs, size_t regs_len,
+                       uint32_t *reply, size_t reply_len,
+                       uint32_t budget);
+
+/* The answer to a bench sheet of any length, a BAD line where it is misformed, written to room with zeros after it.
+ * Returns the answer's length, 1 to 8,192. room_len must be 8,192: with any other, returns 0 and writes nothing. */
+size_t spectra46_sheet(const uint8_t *sheet, size_t sheet_len, uint8_t *room, size_t room_len);
+
+#ifdef __cplusplus
+}
+#endif
+
+#endif

@@ -1,0 +1,34 @@
+//! The Spectra 70/46 engine: every answer is that of functions proved in Rattle (crate `outer`), linked from `libouter.a`.
+//!
+//! ```
+//! use spectra46::{Machine, Stop};
+//!
+//! let mut machine = Machine::new(65_536);
+//! machine.pages[10] = 0x3003; // usable, nonprivileged, frame 3: real address 12,288
+//! machine.memory[12_288..12_294].copy_from_slice(&[0x41, 0x10, 0x00, 0x05, 0x1E, 0x11]); // LA 1,5 and ALR 1,1
+//! machine.counter = 0x00_A000;
+//! let ran = machine.run(2);
+//! assert_eq!((ran.count, ran.stop), (2, Stop::BudgetSpent));
+//! assert_eq!(machine.registers[1], 10);
+//! ```
+
+mod machine;
+pub mod raw;
+mod refusal;
+
+pub use machine::{Machine, Ran, Stop};
+pub use refusal::Refusal;
+
+/// The answer to a bench sheet, as the bench prints it.
+///
+/// ```
+/// let sheet = "PAGE\t10\t3003\nBYTES\t12288\t41100005\nSTART\t00A000\t0\t0\nRUN\t1\n";
+/// let answer = "STOP\t7\t000000\t1\nREG\t1\t00000005\nSTART\t00A004\t0\t0\nPAGE\t10\t7003\n";
+/// assert_eq!(spectra46::answer(sheet.as_bytes()), answer.as_bytes());
+/// ```
+pub fn answer(sheet: &[u8]) -> Vec<u8> {
+    let mut room = vec![0; 8192];
+    let length = raw::sheet(sheet, &mut room);
+    room.truncate(length);
+    room
+}

@@ -1,0 +1,62 @@
+//! Generated sheets.
+//!
+//!     sheets SEED COUNT            the sheets, each after its length
+//!     sheets --labels SEED COUNT   what each sheet was made for
+//!     sheets --one SEED INDEX      one sheet by itself (counted from 0)
+//!     sheets --census SEED COUNT   what they do on our own machine
+
+use second::generate::Generator;
+use second::{census, many};
+use std::io::{self, Write};
+use std::process::ExitCode;
+
+fn main() -> ExitCode {
+    let arguments: Vec<String> = std::env::args().skip(1).collect();
+    let words: Vec<&str> = arguments.iter().map(|word| word.as_str()).collect();
+    let (flag, numbers) = match words.as_slice() {
+        [flag, first, second] => (*flag, (first.parse::<u64>(), second.parse::<u64>())),
+        [first, second] => ("", (first.parse(), second.parse())),
+        _ => return usage(),
+    };
+    let (Ok(seed), Ok(count)) = numbers else {
+        return usage();
+    };
+    let mut out = Vec::new();
+    match flag {
+        "" => {
+            let mut generator = Generator::new(seed);
+            for _ in 0..count {
+                many::push(&mut out, &generator.make().text);
+            }
+        }
+        "--labels" => {
+            let mut generator = Generator::new(seed);
+            for index in 0..count {
+                out.extend_from_slice(format!("{index}\t{}\n", generator.make().label).as_bytes());
+            }
+        }
+        "--one" => {
+            let mut generator = Generator::new(seed);
+            for _ in 0..count {
+                generator.make();
+            }
+            out = generator.make().text;
+        }
+        "--census" => out = census::take(seed, count).text().into_bytes(),
+        _ => return usage(),
+    }
+    let mut stdout = io::stdout().lock();
+    if stdout
+        .write_all(&out)
+        .and_then(|()| stdout.flush())
+        .is_err()
+    {
+        return ExitCode::FAILURE;
+    }
+    ExitCode::SUCCESS
+}
+
+fn usage() -> ExitCode {
+    eprintln!("sheets SEED COUNT | sheets --labels SEED COUNT | sheets --one SEED INDEX | sheets --census SEED COUNT");
+    ExitCode::FAILURE
+}

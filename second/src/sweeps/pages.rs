@@ -1,0 +1,325 @@
+//! Sweeps over page words, addresses and fetches.
+
+use super::{keep_code, MEMORY_OPS};
+use crate::dice::Dice;
+use crate::draft::{rr, rx, si, ss, Draft};
+use crate::machine::{H, M};
+use crate::operations::{self as op, OPERATIONS};
+use crate::scene::{fault_word, open_word, Scene, ADDRESS_BITS, FAULTS, OPEN};
+
+/// Each operation with a memory operand against each kind of page word.
+pub fn operand_words(case: u32, dice: &mut Dice) -> Draft {
+    let code = MEMORY_OPS[(case % 25) as usize];
+    let fault = case / 25 % FAULTS;
+    let mut scene = Scene::new(dice);
+    let word = fault_word(dice, fault, scene.data_frames[0]);
+    scene.draft.page(scene.data_page, word);
+    let displacement = if case / (25 * FAULTS) == 0 {
+        dice.pick(&[0, 8, 1_024, 2_040])
+    } else {
+        dice.pick(&[2_048, 2_056, 3_000, 4_088])
+    };
+    let target = scene.data_at(displacement);
+    scene.put_word(target, dice.edge_word());
+    let instruction = scene.aimed(dice, code, target);
+    scene.add(instruction);
+    keep_code(&mut scene, dice);
+    scene.finish(dice)
+}
+
+/// Operands off their boundary, in pages of several kinds.
+pub fn boundaries(case: u32, dice: &mut Dice) -> Draft {
+    let code = MEMORY_OPS[(case % 15) as usize];
+    let off = case / 15 % 3 + 1;
+    let mut scene = Scene::new(dice);
+    let displacement = dice.pick(&[0, 4, 2_044, 4_092]);
+    let mut target = scene.data_at(displacement + off);
+    match case / 45 {
+        0 => {}
+        1 => {
+            let fault = dice.below(FAULTS);
+            let word = fault_word(dice, fault, scene.data_frames[0]);
+            scene.draft.page(scene.data_page, word);
+        }
+        2 => target = dice.pick(&[0x20_0000, 0x1F_FFFC, 0xFF_FFFC, 0x80_0000]) + off,
+        _ => {
+            // The rest of the instruction cannot be fetched: that comes first.
+            scene.offset = 0xFFE;
+            let fault = dice.below(FAULTS);
+            let word = fault_word(dice, fault, scene.code_frames[1]);
+            scene.draft.page(scene.code_page + 1, word);
+        }
+    }
+    let instruction = scene.aimed(dice, code, target);
+    scene.add(instruction);
+    scene.finish(dice)
+}
+
+/// Operands at the ends of virtual memory.
+pub fn address_ends(case: u32, dice: &mut Dice) -> Draft {
+    let code = MEMORY_OPS[(case % 25) as usize];
+    let boundary = op::boundary(code);
+    let mut scene = Scene::new(dice);
+    let target = match case / 25 {
+        0 => 0x20_0000 - boundary,
+        1 => 0x20_0000,
+        2 => 0x1F_FFFF,
+        3 => 0x1F_FFC0,
+        4 => 0xFF_FFFF,
+        5 => 0x100_0000 - boundary,
+        6 => 0xFF_FFC0,
+        7 => 0,
+        8 => 0x40_0000 + scene.data_at(8),
+        9 => 0x80_0000 + scene.data_at(8),
+        10 => 0x1F_F000,
+        _ => 0xFFC,
+    };
+    let frame = scene.data_frames[0];
+    if dice.chance(3, 4) && scene.code_page != 511 {
+        let word = open_word(dice, frame, true);
+        scene.draft.page(511, word);
+    }
+    if scene.code_page != 0 {
+        let word = open_word(dice, scene.data_frames[1], true);
+        scene.draft.page(0, word);
+    }
+    let value = dice.word();
+    scene.put_word(target & ADDRESS_BITS, value);
+    let instruction = scene.aimed(dice, code, target & ADDRESS_BITS);
+    scene.add(instruction);
+    scene.finish(dice)
+}
+
+/// Every setting of the seven flags for a fetch, a load and a store, low and
+/// high in the page; now and then an X bit with them.
+pub fn word_flags(case: u32, dice: &mut Dice) -> Draft {
+    let flags = ((case % 128) << 9) as u16;
+    let access = case / 128 % 3;
+    let high = case / 384 == 1;
+    let mut scene = Scene::new(dice);
+    let x = if dice.chance(1, 5) {
+        (dice.below(7) as u16 + 1) << 6
+    } else {
+        0
+    };
+    let displacement = if high {
+        dice.pick(&[2_048, 2_050, 4_094])
+    } else {
+        dice.pick(&[0, 2, 2_046])
+    };
+    if access == 0 {
+        scene
+            .draft
+            .page(scene.code_page, flags | x | scene.code_frames[0]);
+        scene.offset = displacement;
+        let r1 = scene.valued(dice);
+        let r2 = scene.valued(dice);
+        scene.add(rr(op::LTR, r1, r2));
+        return scene.finish(dice);
+    }
+    scene
+        .draft
+        .page(scene.data_page, flags | x | scene.data_frames[0]);
+    let target = scene.data_at(displacement);
+    // The byte where it should be, and others in the other half.
+    let real = u32::from(scene.data_frames[0]) * 4_096 + displacement;
+    scene.draft.put(real ^ 2_048, &[0x11, 0x22]);
+    scene.put(target, &[0x33, 0x44]);
+    let (base, d) = scene.based(dice, target);
+    if access == 1 {
+        let r = scene.take();
+        let instruction = match dice.below(4) {
+            0 => rx(op::IC, r, 0, base, d),
+            1 => rx(op::LH, r, 0, base, d),
+            2 => si(op::CLI, 0x33, base, d),
+            _ => si(op::TM, 0x12, base, d),
+        };
+        scene.add(instruction);
+    } else {
+        let r = scene.valued(dice);
+        let instruction = match dice.below(5) {
+            0 => rx(op::STC, r, 0, base, d),
+            1 => rx(op::STH, r, 0, base, d),
+            2 => si(op::MVI, 0x55, base, d),
+            3 => si(op::XI, 0xFF, base, d),
+            _ => ss(op::MVC, 1, base, d, base, d),
+        };
+        scene.add(instruction);
+        let r = scene.take();
+        scene.add(rx(op::LH, r, 0, base, d));
+    }
+    scene.finish(dice)
+}
+
+/// Every page number, with pages of like numbers beside it; present, or
+/// absent.
+pub fn page_numbers(case: u32, dice: &mut Dice) -> Draft {
+    let page = case % 512;
+    let present = case < 512;
+    let fetch = dice.chance(1, 2);
+    let mut scene = Scene::new(dice);
+    let likes = [
+        page % 64,
+        page ^ 64,
+        page ^ 128,
+        page ^ 256,
+        page % 100,
+        page % 256,
+        page / 2,
+        (page * 2) % 512,
+        page.reverse_bits() >> 23,
+    ];
+    let frame = scene.data_frames[0];
+    let like_frame = scene.data_frames[1];
+    scene
+        .draft
+        .put(u32::from(frame) * 4_096, &[0x41, 0x50, 0x01, 0x11]);
+    scene
+        .draft
+        .put(u32::from(like_frame) * 4_096, &[0x41, 0x60, 0x02, 0x22]);
+    if fetch {
+        scene.draft.pages.clear();
+        for like in likes {
+            if like != page && dice.chance(2, 3) {
+                scene.draft.page(like, OPEN | like_frame);
+            }
+        }
+        if present {
+            scene.draft.page(page, OPEN | frame);
+        }
+        scene.code_page = page;
+        scene.offset = 0;
+        // The code already lies in its frame.
+        return scene.finish_with(1);
+    }
+    // From a code page that is none of these.
+    let mut code_page = 5;
+    while code_page == page || likes.contains(&code_page) {
+        code_page += 1;
+    }
+    scene.draft.pages.clear();
+    scene.code_page = code_page;
+    scene.draft.page(code_page, OPEN | scene.code_frames[0]);
+    for like in likes {
+        if like != page && dice.chance(2, 3) {
+            scene.draft.page(like, OPEN | like_frame);
+        }
+    }
+    if present {
+        scene.draft.page(page, OPEN | frame);
+    }
+    let (x, base, d) = scene.indexed(dice, page * 4_096);
+    let r = scene.take();
+    scene.add(rx(op::L, r, x, base, d));
+    scene.finish(dice)
+}
+
+/// Every frame number for a fetch, a load and a store.
+pub fn frames(case: u32, dice: &mut Dice) -> Draft {
+    let frame = (case % 64) as u16;
+    let mut scene = Scene::new(dice);
+    let halves = dice.pick(&[0, 0, 0, M, M | H, H]);
+    let displacement = if halves & M != 0 {
+        2 * dice.below(1_024)
+    } else {
+        2 * dice.below(2_048)
+    };
+    let word = OPEN | halves | frame;
+    if case / 64 == 0 {
+        scene.draft.page(scene.code_page, word);
+        scene.offset = displacement;
+        let r = scene.take();
+        scene.add(rr(op::BALR, r, 0));
+        return scene.finish(dice);
+    }
+    while scene.code_frames[0] == frame {
+        scene.code_frames[0] = (frame + 1) % 16;
+        scene
+            .draft
+            .page(scene.code_page, OPEN | scene.code_frames[0]);
+    }
+    scene.draft.page(scene.data_page, word);
+    let target = scene.data_at(displacement);
+    scene.put(target, &dice.word().to_be_bytes()[..2]);
+    let (base, d) = scene.based(dice, target);
+    if case / 64 == 2 {
+        let r = scene.valued(dice);
+        scene.add(rx(op::STH, r, 0, base, d));
+    }
+    let r = scene.take();
+    scene.add(rx(op::LH, r, 0, base, d));
+    scene.finish(dice)
+}
+
+/// Each operation where its own fetch is in danger.
+pub fn fetches(case: u32, dice: &mut Dice) -> Draft {
+    let row = OPERATIONS[(case % 50) as usize];
+    let length = op::length(row.code);
+    let mut scene = Scene::new(dice);
+    let page = scene.code_page;
+    match case / 50 {
+        // The first halfword's page.
+        0..=2 => {
+            let fault = dice.below(FAULTS);
+            let word = fault_word(dice, fault, scene.code_frames[0]);
+            scene.draft.page(page, word);
+            scene.offset = dice.pick(&[0, 2_046, 2_048, 2_050]);
+        }
+        // The end of a half page.
+        3 | 4 => {
+            let half = dice.pick(&[0, H]);
+            scene
+                .draft
+                .page(page, OPEN | M | half | scene.code_frames[0]);
+            scene.offset = 2_048 - dice.pick(&[2, 4, 6]);
+        }
+        // An odd counter.
+        5 => {
+            scene.offset = 1 + 2 * dice.below(200);
+            if dice.chance(1, 2) {
+                let fault = dice.below(FAULTS);
+                let word = fault_word(dice, fault, scene.code_frames[0]);
+                scene.draft.page(page, word);
+            }
+        }
+        // The end of virtual memory.
+        6 | 7 => {
+            scene.code_page = 511;
+            scene.draft.page(511, OPEN | scene.code_frames[0]);
+            scene.offset = 4_096 - dice.pick(&[2, 4, 6]);
+        }
+        // The end of all addresses.
+        8 => {
+            scene.draft.page(0, OPEN | scene.code_frames[0]);
+            scene.draft.page(511, OPEN | scene.code_frames[0]);
+            scene.code_page = 4_095;
+            scene.offset = 4_096 - dice.pick(&[2, 4, 6, 1]);
+        }
+        // Across into a page that is open.
+        _ => {
+            let word = open_word(dice, scene.code_frames[1], false);
+            scene.draft.page(page + 1, word);
+            scene.offset = 4_096 - length + 2 * dice.below(length / 2 + 1);
+        }
+    }
+    let instruction = scene.good(dice, row.code);
+    scene.add(instruction);
+    scene.finish(dice)
+}
+
+/// Each instruction of four or six bytes over the end of a page, against
+/// each kind of word for the page after.
+pub fn fetch_rests(case: u32, dice: &mut Dice) -> Draft {
+    let code = OPERATIONS[(17 + case % 33) as usize].code;
+    let fault = case / 33;
+    let mut scene = Scene::new(dice);
+    let word = fault_word(dice, fault, scene.code_frames[1]);
+    scene.draft.page(scene.code_page + 1, word);
+    scene.offset = 0xFFE;
+    if op::length(code) == 6 && dice.chance(1, 2) {
+        scene.offset = 0xFFC;
+    }
+    let instruction = scene.good(dice, code);
+    scene.add(instruction);
+    scene.finish(dice)
+}

@@ -1,0 +1,101 @@
+//! The generated sheets reach what they should.
+
+use second::census;
+use second::generate::Generator;
+use second::operations::{self as op, Form, OPERATIONS};
+use second::sheet;
+
+#[test]
+fn twenty_thousand_sheets_reach_everything() {
+    for seed in [1, 2] {
+        let census = census::take(seed, 20_000);
+        assert_eq!(census.sheets, 20_000);
+        assert!(census.bad >= 1_000, "BAD {}", census.bad);
+        for number in [1, 2, 3, 4, 5, 7] {
+            assert!(
+                census.stops[number] >= 500,
+                "STOP {number}: {}",
+                census.stops[number]
+            );
+        }
+        assert_eq!(census.stops[0], 0);
+        assert_eq!(census.stops[6], 0);
+        for operation in OPERATIONS {
+            let name = operation.name;
+            let row = &census.rows[usize::from(operation.code)];
+            // In so many sheets, not only so many times in one loop.
+            assert!(
+                row.sheets >= 200,
+                "{name} completed in {} sheets",
+                row.sheets
+            );
+            let (others, twos) = match operation.form {
+                Form::RR => (0, 0),
+                _ if op::boundary(operation.code) > 1 => (10, 15),
+                _ if op::boundary(operation.code) == 1 => (10, 0),
+                _ => (3, 0),
+            };
+            for number in [1, 3, 4] {
+                let refused = row.refused[number];
+                assert!(refused >= others, "{name} refused with {number}: {refused}");
+                assert!(others > 0 || refused == 0);
+            }
+            assert!(
+                row.refused[2] >= twos,
+                "{name} refused with 2: {}",
+                row.refused[2]
+            );
+            assert!(twos > 0 || row.refused[2] == 0);
+            assert_eq!(row.refused[5], 0);
+        }
+        for code in 0..=255u8 {
+            if op::find(code).is_none() {
+                let row = &census.rows[usize::from(code)];
+                assert_eq!(row.completed, 0);
+                assert!(row.refused[5] >= 1, "{code:02X} never met");
+            }
+        }
+        for number in [1, 2, 3, 4] {
+            assert!(census.unknown[number] >= 50);
+        }
+    }
+}
+
+#[test]
+fn the_same_seed_gives_the_same_sheets() {
+    let mut first = Generator::new(7);
+    let mut again = Generator::new(7);
+    let mut other = Generator::new(8);
+    let mut different = 0;
+    for _ in 0..500 {
+        let made = first.make();
+        assert_eq!(made.text, again.make().text);
+        if made.text != other.make().text {
+            different += 1;
+        }
+    }
+    assert!(different > 400);
+}
+
+#[test]
+fn most_sheets_are_small_and_good_ones_are_plenty() {
+    let mut generator = Generator::new(3);
+    let mut small = 0;
+    let mut good = 0;
+    for _ in 0..5_000 {
+        let made = generator.make();
+        if made.text.len() < 600 {
+            small += 1;
+        }
+        if sheet::read(&made.text).is_ok() {
+            good += 1;
+        }
+    }
+    assert!(small > 4_500, "{small} small");
+    assert!(good > 3_500, "{good} good");
+}
+
+#[test]
+fn twenty_thousand_sheets_take_in_every_case_of_the_sweeps() {
+    assert!(Generator::new(0).sweep_cases() <= 12_000);
+}

@@ -1,0 +1,390 @@
+//! What a sheet cannot show: the door, single steps, memory after a refusal,
+//! and other sizes of memory.
+
+use second::machine::{Access, Machine, Refusal, Run, Step};
+
+const REFUSED_AT_THE_DOOR: Step = Step {
+    number: 6,
+    place: 0,
+};
+
+/// A machine with code in page 10, frame 3 if it has one, else frame 0.
+fn with_code(size: usize, code: &[u8]) -> Machine {
+    let mut machine = Machine::new(size);
+    let frame = if size > 3 * 4_096 { 3 } else { 0 };
+    machine.map[10] = 0x3000 + frame as u16;
+    machine.memory[frame * 4_096..frame * 4_096 + code.len()].copy_from_slice(code);
+    machine.counter = 0x00_A000;
+    machine
+}
+
+fn load_five() -> Machine {
+    with_code(65_536, &[0x41, 0x10, 0x00, 0x05])
+}
+
+#[test]
+fn a_completed_step_is_number_0_at_place_0() {
+    let mut machine = load_five();
+    let mut expected = machine.clone();
+    expected.registers[1] = 5;
+    expected.counter = 0x00_A004;
+    expected.map[10] = 0x7003;
+    assert_eq!(
+        machine.step(),
+        Step {
+            number: 0,
+            place: 0
+        }
+    );
+    assert_eq!(machine, expected);
+    // The zeros that follow are no operation, and alter nothing.
+    assert_eq!(
+        machine.step(),
+        Step {
+            number: 5,
+            place: 0x00_A004
+        }
+    );
+    assert_eq!(machine, expected);
+}
+
+/// Hands the machine in with one thing wrong, for a step and for runs.
+fn refused_at_the_door(spoil: fn(&mut Machine)) {
+    let mut machine = load_five();
+    spoil(&mut machine);
+    let before = machine.clone();
+    assert!(machine.wrong_at_the_door());
+    assert_eq!(machine.step(), REFUSED_AT_THE_DOOR);
+    for budget in [0, 1, 65_535, 65_536] {
+        assert_eq!(
+            machine.run(budget),
+            Run {
+                number: 6,
+                place: 0,
+                count: 0
+            }
+        );
+    }
+    assert_eq!(machine, before);
+}
+
+#[test]
+fn wrong_lists_are_refused_at_the_door() {
+    refused_at_the_door(|machine| machine.registers.truncate(15));
+    refused_at_the_door(|machine| machine.registers.push(0));
+    refused_at_the_door(|machine| machine.registers.clear());
+    refused_at_the_door(|machine| machine.map.truncate(511));
+    refused_at_the_door(|machine| machine.map.push(0));
+    refused_at_the_door(|machine| machine.map.clear());
+    refused_at_the_door(|machine| machine.memory.clear());
+    refused_at_the_door(|machine| machine.memory.truncate(4_095));
+    refused_at_the_door(|machine| machine.memory.truncate(65_535));
+    refused_at_the_door(|machine| machine.memory.push(0));
+    refused_at_the_door(|machine| machine.memory.resize(65_536 + 2_048, 0));
+    refused_at_the_door(|machine| machine.memory.resize(262_145, 0));
+    refused_at_the_door(|machine| machine.memory.resize(262_144 + 4_096, 0));
+}
+
+#[test]
+fn numbers_out_of_range_are_refused_at_the_door() {
+    refused_at_the_door(|machine| machine.counter = 0x100_0000);
+    refused_at_the_door(|machine| machine.counter = 0x100_0001);
+    refused_at_the_door(|machine| machine.counter = 0xFFFF_FFFF);
+    refused_at_the_door(|machine| machine.code = 4);
+    refused_at_the_door(|machine| machine.code = 0xFFFF_FFFF);
+    refused_at_the_door(|machine| machine.mask = 16);
+    refused_at_the_door(|machine| machine.mask = 0xFFFF_FFFF);
+}
+
+#[test]
+fn values_at_their_edge_pass_the_door() {
+    for (counter, code, mask) in [(0xFF_FFFF, 3, 15), (0, 0, 0), (0xFF_FFFE, 0, 15)] {
+        let mut machine = load_five();
+        machine.counter = counter;
+        machine.code = code;
+        machine.mask = mask;
+        assert!(!machine.wrong_at_the_door());
+        assert_ne!(machine.step().number, 6);
+        assert_ne!(machine.run(65_535).number, 6);
+        assert_eq!(
+            machine.run(65_536),
+            Run {
+                number: 6,
+                place: 0,
+                count: 0
+            }
+        );
+        assert_eq!(
+            machine.run(u32::MAX),
+            Run {
+                number: 6,
+                place: 0,
+                count: 0
+            }
+        );
+    }
+}
+
+#[test]
+fn a_budget_out_of_range_alters_nothing() {
+    let mut machine = load_five();
+    let before = machine.clone();
+    assert_eq!(
+        machine.run(65_536),
+        Run {
+            number: 6,
+            place: 0,
+            count: 0
+        }
+    );
+    assert_eq!(machine, before);
+    assert_eq!(
+        machine.run(0),
+        Run {
+            number: 7,
+            place: 0,
+            count: 0
+        }
+    );
+    assert_eq!(machine, before);
+    assert_eq!(
+        machine.run(1),
+        Run {
+            number: 7,
+            place: 0,
+            count: 1
+        }
+    );
+    assert_eq!(machine.counter, 0x00_A004);
+}
+
+#[test]
+fn a_run_is_its_steps_one_after_another() {
+    // LA 1,200; loop: BCT 1,loop
+    let code = [0x41, 0x10, 0x00, 0xC8, 0x46, 0x10, 0x20, 0x04];
+    for budget in [0, 1, 2, 100, 200, 201, 202, 65_535] {
+        let mut by_run = with_code(65_536, &code);
+        by_run.registers[2] = 0x00_A000;
+        let mut by_step = by_run.clone();
+        let run = by_run.run(budget);
+        for _ in 0..run.count {
+            assert_eq!(
+                by_step.step(),
+                Step {
+                    number: 0,
+                    place: 0
+                }
+            );
+        }
+        assert_eq!(by_run, by_step);
+        assert!(run.count <= budget);
+        if run.number == 7 {
+            assert_eq!(run.count, budget);
+        } else {
+            assert_eq!(
+                by_step.step(),
+                Step {
+                    number: run.number,
+                    place: run.place
+                }
+            );
+            assert_eq!(by_run, by_step);
+        }
+        // 1 + 200 steps, then the zeros after the loop.
+        assert_eq!(run.number, if budget <= 201 { 7 } else { 5 });
+    }
+}
+
+#[test]
+fn a_refused_move_stores_nothing() {
+    // MVC of eight bytes over the end of page 20 into page 21, from page 30.
+    let code = [0xD2, 0x07, 0x2F, 0xFC, 0x30, 0x00];
+    for (word, number) in [
+        (0x0000, 3),
+        (0x1006, 3),
+        (0x3806, 4),
+        (0x2006, 4),
+        (0x3046, 4),
+        (0x3010, 1),
+    ] {
+        let mut machine = with_code(65_536, &code);
+        machine.map[20] = 0x3004;
+        machine.map[21] = word;
+        machine.map[30] = 0x3005;
+        machine.registers[2] = 0x01_4000;
+        machine.registers[3] = 0x01_E000;
+        for index in 0..8 {
+            machine.memory[5 * 4_096 + index] = 0xA0 + index as u8;
+        }
+        let before = machine.clone();
+        assert_eq!(
+            machine.step(),
+            Step {
+                number,
+                place: 0x01_5000
+            }
+        );
+        assert_eq!(machine, before);
+        // With the page open, all eight bytes go over, and both pages say so.
+        machine.map[21] = 0x3006;
+        assert_eq!(
+            machine.step(),
+            Step {
+                number: 0,
+                place: 0
+            }
+        );
+        for index in 0..8 {
+            let real = if index < 4 {
+                4 * 4_096 + 4_092 + index
+            } else {
+                6 * 4_096 + index - 4
+            };
+            assert_eq!(machine.memory[real], 0xA0 + index as u8);
+        }
+        let changed = machine
+            .memory
+            .iter()
+            .zip(&before.memory)
+            .filter(|(a, b)| a != b)
+            .count();
+        assert_eq!(changed, 8);
+        assert_eq!(machine.map[20], 0xF004);
+        assert_eq!(machine.map[21], 0xF006);
+        assert_eq!(machine.map[30], 0x7005);
+    }
+}
+
+#[test]
+fn a_refused_second_field_stores_nothing() {
+    // The target is good throughout; the source runs into an absent page.
+    let mut machine = with_code(65_536, &[0xD2, 0x07, 0x20, 0x00, 0x3F, 0xFC]);
+    machine.map[20] = 0x3004;
+    machine.map[30] = 0x3005;
+    machine.registers[2] = 0x01_4000;
+    machine.registers[3] = 0x01_E000;
+    machine.memory[5 * 4_096 + 4_092] = 0x77;
+    let before = machine.clone();
+    assert_eq!(
+        machine.step(),
+        Step {
+            number: 3,
+            place: 0x01_F000
+        }
+    );
+    assert_eq!(machine, before);
+}
+
+#[test]
+fn a_refused_multiple_store_or_load_alters_nothing() {
+    for code in [0x90, 0x98] {
+        let mut machine = with_code(65_536, &[code, 0x0F, 0x2F, 0xC4]);
+        machine.map[20] = 0x3004;
+        for number in 0..16 {
+            machine.registers[number] = 0x1111_1111 * number as u32;
+        }
+        machine.registers[2] = 0x01_4000;
+        let before = machine.clone();
+        assert_eq!(
+            machine.step(),
+            Step {
+                number: 3,
+                place: 0x01_5000
+            }
+        );
+        assert_eq!(machine, before);
+    }
+}
+
+#[test]
+fn an_overlapping_move_goes_byte_by_byte() {
+    let mut machine = with_code(65_536, &[0xD2, 0x03, 0x20, 0x01, 0x20, 0x00]);
+    machine.map[20] = 0x3004;
+    machine.registers[2] = 0x01_4000;
+    machine.memory[4 * 4_096..4 * 4_096 + 6].copy_from_slice(&[1, 2, 3, 4, 5, 6]);
+    assert_eq!(machine.step().number, 0);
+    assert_eq!(machine.memory[4 * 4_096..4 * 4_096 + 6], [1, 1, 1, 1, 1, 6]);
+}
+
+#[test]
+fn memory_of_other_sizes() {
+    for pages in 1..=64usize {
+        let size = pages * 4_096;
+        let mut machine = Machine::new(size);
+        assert!(!machine.wrong_at_the_door());
+        machine.map[10] = 0x3000 + (pages - 1) as u16;
+        let last = 0x00_AFFF;
+        assert_eq!(machine.look_up(last, Access::Load), Ok(size - 1));
+        machine.map[10] = 0x3600 + (pages - 1) as u16;
+        assert_eq!(machine.look_up(0x00_A7FF, Access::Store), Ok(size - 1));
+        if pages < 64 {
+            machine.map[10] = 0x3000 + pages as u16;
+            for address in [0x00_A000, last] {
+                assert_eq!(
+                    machine.look_up(address, Access::Load),
+                    Err(Refusal {
+                        number: 1,
+                        place: address
+                    })
+                );
+            }
+            assert_eq!(machine.run(0).number, 7);
+            machine.counter = 0x00_A000;
+            assert_eq!(
+                machine.run(1),
+                Run {
+                    number: 1,
+                    place: 0x00_A000,
+                    count: 0
+                }
+            );
+        }
+        // The whole case, in the last frame.
+        machine.map[10] = 0x3000 + (pages - 1) as u16;
+        machine.memory[size - 4_096..size - 4_092].copy_from_slice(&[0x41, 0x10, 0x00, 0x05]);
+        machine.counter = 0x00_A000;
+        assert_eq!(
+            machine.run(1),
+            Run {
+                number: 7,
+                place: 0,
+                count: 1
+            }
+        );
+        assert_eq!(machine.registers[1], 5);
+    }
+}
+
+#[test]
+fn the_tests_of_a_look_up_in_their_order() {
+    // Address, word, access, size of memory, expected number (0 for none).
+    let table: [(u32, u16, Access, u32); 16] = [
+        (0x20_0000, 0x3003, Access::Load, 1),
+        (0xFF_FFFF, 0x3003, Access::Store, 1),
+        (0x00_A000, 0x0000, Access::Load, 3),
+        (0x00_A800, 0x1FD0, Access::Store, 3),
+        (0x00_A800, 0x3FD0, Access::Store, 4),
+        (0x00_A000, 0x3050, Access::Load, 4),
+        (0x00_A000, 0x3090, Access::Load, 4),
+        (0x00_A000, 0x3110, Access::Load, 4),
+        (0x00_A800, 0x3410, Access::Load, 4),
+        (0x00_A000, 0x3410, Access::Load, 1),
+        (0x00_A000, 0x2010, Access::Load, 4),
+        (0x00_A000, 0x3810, Access::Store, 4),
+        (0x00_A000, 0x3810, Access::Load, 1),
+        (0x00_A000, 0x3803, Access::Load, 0),
+        (0x00_A000, 0xF003, Access::Store, 0),
+        (0x00_A800, 0x3203, Access::Store, 0),
+    ];
+    for (address, word, access, number) in table {
+        let mut machine = Machine::new(65_536);
+        machine.map[10] = word;
+        match machine.look_up(address, access) {
+            Ok(_) => assert_eq!(number, 0, "{address:06X} {word:04X}"),
+            Err(refusal) => {
+                assert_eq!(refusal.number, number, "{address:06X} {word:04X}");
+                assert_eq!(refusal.place, address);
+            }
+        }
+    }
+}

@@ -1,0 +1,66 @@
+//! A case: the state before one instruction, and the state after it.
+
+use crate::set::Instruction;
+
+/// Addresses keep 24 bits.
+pub const ADDRESS: u32 = 0x00FF_FFFF;
+
+/// A case's own bytes, where its code and its operands lie. Every other window lies across the edge of a page.
+pub const WINDOW: usize = 1024;
+
+/// A few bytes in page 0, to be reached without base and index. Every case has them to itself.
+pub const ZONE: usize = 256;
+pub const ZONE_AT: u32 = 0xF00;
+
+pub struct Case {
+    pub instruction: &'static Instruction,
+    pub number: usize,
+    pub counter: u32,
+    pub code: u8,
+    pub mask: u8,
+    pub regs: [u32; 16],
+    pub window_at: u32,
+    pub window: Vec<u8>,
+    pub zone: Vec<u8>,
+    /// Whether the code or an operand lies across the edge of a page.
+    pub crosses: bool,
+    /// Which of the six orders its pages take in the engine's three frames.
+    pub order: usize,
+}
+
+/// What Hercules made of a case.
+pub struct After {
+    pub end: End,
+    pub code: u8,
+    pub mask: u8,
+    pub regs: [u32; 16],
+    pub window: Vec<u8>,
+    pub zone: Vec<u8>,
+}
+
+/// How the instruction ended.
+#[derive(Clone, Copy, Debug, PartialEq, Eq)]
+pub enum End {
+    /// Completed, with this counter.
+    At(u32),
+    /// Completed with this counter; then it interrupted for overflow, since the mask asks for it.
+    Overflow(u32),
+    /// Interrupted with this code.
+    Refused(u16),
+}
+
+impl Case {
+    /// The instruction's bytes: two, four or six by the top two bits of its operation code.
+    pub fn text(&self) -> &[u8] {
+        let at = (self.counter - self.window_at) as usize;
+        &self.window[at..at + length(self.instruction.code)]
+    }
+}
+
+pub fn length(code: u8) -> usize {
+    match code >> 6 {
+        0 => 2,
+        3 => 6,
+        _ => 4,
+    }
+}
