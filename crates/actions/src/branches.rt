@@ -8,7 +8,7 @@ ghost use Rattle.machine.specs.Branches.{chosen, link, lessOne, going, branch};
 ghost use Rattle.actions.specs.Told.{cpuOf};
 
 // Whether the mask has the bit for this code.
-fn is_chosen(mask: u8, code: u8) -> bool
+fn is_chosen(mask: u8, code: u32) -> bool
     ensures { λ r. ⌜ r ≡ chosen mask code ⌝ }
 {
     match code {

@@ -13,8 +13,10 @@ use pages::Look;
 use words::Res;
 ghost use mathlib.Core.Path.{_≡_};
 ghost use mathlib.Core.Bool.{true};
+ghost use Prim.Native.Nat.{_≤_, _+_};
+ghost use lib.ListN.{length};
 ghost use Rattle.pages.specs.Framed.{framedOf};
-ghost use Rattle.fields.specs.Direct.{readField};
+ghost use Rattle.fields.specs.Direct.{flat};
 ghost use Rattle.machine.specs.Prog.{done};
 ghost use Rattle.machine.specs.Fields.{bytesOf};
 ghost use Rattle.machine.specs.Rx.{rx, rxAddress, widthOf, taken};
@@ -36,19 +38,20 @@ fn width_of(op: Operand) -> Width
     }
 }
 
-// The operand at an address, with register x.
-fn take(mem: &[u8], map: &[u16], op: Operand, at: u32, x: u32, code: u8) -> Res
-    ensures { λ r. ⌜ r ≡ taken op x (readField (framedOf (now (mem .entry)) (now (map .entry))) at (bytesOf (widthOf op)) 0) code ⌝ }
+// The operand at a real address, with register x.
+fn take(mem: &[u8], op: Operand, at: usize, x: u32, code: u32) -> Res
+    requires { ⌜ at + bytesOf (widthOf op) ≤ length (now mem) ⌝ }
+    ensures { λ r. ⌜ r ≡ taken op x (flat (now (mem .entry)) at (bytesOf (widthOf op)) 0) code ⌝ }
 {
     match op {
-        Operand::WordWith(alu) => words::combine(alu, x, fields::read_word(mem, map, at), code),
+        Operand::WordWith(alu) => words::combine(alu, x, fields::flat::word_of(mem, at), code),
         Operand::HalfSpread => Res {
-            value: words::widen(fields::read_half(mem, map, at)),
+            value: words::widen(fields::flat::half_of(mem, at)),
             code: code,
             over: false,
         },
         Operand::ByteInserted => Res {
-            value: x / 256 * 256 + pages::read_byte(mem, map, at) as u32,
+            value: x / 256 * 256 + fields::flat::byte_of(mem, at) as u32,
             code: code,
             over: false,
         },
@@ -60,16 +63,16 @@ fn load(regs: &mut [u32], mem: &[u8], map: &mut [u16], c: Now, op: Operand, f: R
     ensures { λ r. ⌜ told r (now (regs .exit)) c (framedOf (now (mem .entry)) (now (map .exit))) ≡ doing (rx (RxAction.Taking op) f) (now (regs .entry)) c (framedOf (now (mem .entry)) (now (map .entry))) ⌝ }
 {
     let at = operand_address(regs, c, f);
-    let n = fields::bytes_of(width_of(op));
-    if at % n != 0 {
+    let width = width_of(op);
+    if fields::is_off(at, width) {
         return Out::Stop(2, at);
     }
-    let found = fields::look_one(map, mem.len(), Access::Load, at, n);
-    let Look::At(_) = found else {
+    let found = fields::look_one(map, mem.len(), Access::Load, at, fields::bytes_of(width));
+    let Look::At(i) = found else {
         return crate::refusal(found);
     };
-    fields::note_field(map, at, n);
-    let result = take(mem, map, op, at, registers::reg(regs, f.r1), c.code);
+    let result = take(mem, op, i, registers::reg(regs, f.r1), c.code);
+    pages::note(map, at);
     let next = registers::ahead_of(regs, c, 4);
     registers::put_reg(regs, f.r1, result.value);
     Out::Done(Now {
@@ -84,16 +87,16 @@ fn store(regs: &[u32], mem: &mut [u8], map: &mut [u16], c: Now, width: Width, f:
     ensures { λ r. ⌜ told r (now (regs .entry)) c (framedOf (now (mem .exit)) (now (map .exit))) ≡ doing (rx (RxAction.Storing width) f) (now (regs .entry)) c (framedOf (now (mem .entry)) (now (map .entry))) ⌝ }
 {
     let at = operand_address(regs, c, f);
-    let n = fields::bytes_of(width);
-    if at % n != 0 {
+    if fields::is_off(at, width) {
         return Out::Stop(2, at);
     }
-    let found = fields::look_one(map, mem.len(), Access::Store, at, n);
-    let Look::At(_) = found else {
+    let found = fields::look_one(map, mem.len(), Access::Store, at, fields::bytes_of(width));
+    let Look::At(i) = found else {
         return crate::refusal(found);
     };
-    fields::note_field(map, at, n);
-    fields::write_field(mem, map, at, width, registers::reg(regs, f.r1));
+    fields::flat::put_field(mem, i, width, registers::reg(regs, f.r1));
+    pages::note(map, at);
+    pages::note_written(map, at);
     Out::Done(Now {
         pc: registers::ahead_of(regs, c, 4),
         code: c.code,

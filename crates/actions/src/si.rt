@@ -29,12 +29,12 @@ fn compare(regs: &[u32], mem: &[u8], map: &mut [u16], c: Now, f: SiFields) -> Ou
     ensures { λ r. ⌜ told r (now (regs .entry)) c (framedOf (now (mem .entry)) (now (map .exit))) ≡ doing (si SiAction.CompareByte f) (now (regs .entry)) c (framedOf (now (mem .entry)) (now (map .entry))) ⌝ }
 {
     let at = operand_address(regs, c, f);
-    let found = pages::look_up(map, mem.len(), Access::Load, at);
-    let Look::At(_) = found else {
+    let found = fields::look_one(map, mem.len(), Access::Load, at, 1);
+    let Look::At(i) = found else {
         return crate::refusal(found);
     };
+    let b = fields::flat::byte_of(mem, i);
     pages::note(map, at);
-    let b = pages::read_byte(mem, map, at);
     Out::Done(Now {
         pc: registers::ahead_of(regs, c, 4),
         code: words::compare_bits(wide(b), wide(f.i2)),
@@ -47,12 +47,12 @@ fn test(regs: &[u32], mem: &[u8], map: &mut [u16], c: Now, f: SiFields) -> Out
     ensures { λ r. ⌜ told r (now (regs .entry)) c (framedOf (now (mem .entry)) (now (map .exit))) ≡ doing (si SiAction.TestMask f) (now (regs .entry)) c (framedOf (now (mem .entry)) (now (map .entry))) ⌝ }
 {
     let at = operand_address(regs, c, f);
-    let found = pages::look_up(map, mem.len(), Access::Load, at);
-    let Look::At(_) = found else {
+    let found = fields::look_one(map, mem.len(), Access::Load, at, 1);
+    let Look::At(i) = found else {
         return crate::refusal(found);
     };
+    let b = fields::flat::byte_of(mem, i);
     pages::note(map, at);
-    let b = pages::read_byte(mem, map, at);
     Out::Done(Now {
         pc: registers::ahead_of(regs, c, 4),
         code: words::mask_code(b, f.i2),
@@ -65,13 +65,14 @@ fn bits(regs: &[u32], mem: &mut [u8], map: &mut [u16], c: Now, op: Logic, f: SiF
     ensures { λ r. ⌜ told r (now (regs .entry)) c (framedOf (now (mem .exit)) (now (map .exit))) ≡ doing (si (SiAction.BitsByte op) f) (now (regs .entry)) c (framedOf (now (mem .entry)) (now (map .entry))) ⌝ }
 {
     let at = operand_address(regs, c, f);
-    let found = pages::look_up(map, mem.len(), Access::Store, at);
-    let Look::At(_) = found else {
+    let found = fields::look_one(map, mem.len(), Access::Store, at, 1);
+    let Look::At(i) = found else {
         return crate::refusal(found);
     };
+    let v = words::logic_byte(op, fields::flat::byte_of(mem, i), f.i2);
+    fields::flat::put_byte(mem, i, v);
     pages::note(map, at);
-    let v = words::logic_byte(op, pages::read_byte(mem, map, at), f.i2);
-    pages::write_byte(mem, map, at, v);
+    pages::note_written(map, at);
     Out::Done(Now {
         pc: registers::ahead_of(regs, c, 4),
         code: words::zero_code(wide(v)),
@@ -84,12 +85,13 @@ fn store(regs: &[u32], mem: &mut [u8], map: &mut [u16], c: Now, f: SiFields) -> 
     ensures { λ r. ⌜ told r (now (regs .entry)) c (framedOf (now (mem .exit)) (now (map .exit))) ≡ doing (si SiAction.MoveByte f) (now (regs .entry)) c (framedOf (now (mem .entry)) (now (map .entry))) ⌝ }
 {
     let at = operand_address(regs, c, f);
-    let found = pages::look_up(map, mem.len(), Access::Store, at);
-    let Look::At(_) = found else {
+    let found = fields::look_one(map, mem.len(), Access::Store, at, 1);
+    let Look::At(i) = found else {
         return crate::refusal(found);
     };
+    fields::flat::put_byte(mem, i, f.i2);
     pages::note(map, at);
-    pages::write_byte(mem, map, at, f.i2);
+    pages::note_written(map, at);
     Out::Done(Now {
         pc: registers::ahead_of(regs, c, 4),
         code: c.code,

@@ -60,16 +60,16 @@ pub fn step_reply(c: Now, out: Out) -> Reply
             place: 0,
             count: 1,
             pc: n.pc,
-            code: n.code as u32,
-            mask: n.mask as u32,
+            code: n.code,
+            mask: n.mask,
         },
         Out::Stop(number, place) => Reply {
             number: number,
             place: place,
             count: 0,
             pc: c.pc,
-            code: c.code as u32,
-            mask: c.mask as u32,
+            code: c.code,
+            mask: c.mask,
         },
     }
 }
@@ -83,7 +83,7 @@ pub fn run_reply(r: Ran) -> Reply
         place: r.place,
         count: r.count,
         pc: now.pc,
-        code: now.code as u32,
-        mask: now.mask as u32,
+        code: now.code,
+        mask: now.mask,
     }
 }

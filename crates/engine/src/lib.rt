@@ -37,8 +37,8 @@ pub fn step(
     if door::is_proper(mem, map, regs, pc, code, mask) {
         let c = Now {
             pc: pc,
-            code: (code % 4) as u8,
-            mask: (mask % 16) as u8,
+            code: code,
+            mask: mask,
         };
         let out = stepping::step_once(regs, mem, map, c);
         return door::step_reply(c, out);
@@ -62,8 +62,8 @@ pub fn run(
         if budget <= 65535 {
             let c = Now {
                 pc: pc,
-                code: (code % 4) as u8,
-                mask: (mask % 16) as u8,
+                code: code,
+                mask: mask,
             };
             let ran = stepping::run_steps(regs, mem, map, c, budget);
             return door::run_reply(ran);

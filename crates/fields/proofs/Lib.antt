@@ -1,5 +1,6 @@
 pub mod Loops
 pub mod Widths
 pub mod Bridge
-pub mod Stretch
-pub mod Near
+pub mod Once
+pub mod Together
+pub mod Found

@@ -3,6 +3,7 @@ use Prim.Native.Nat.{ℕ, zero, suc, _+_, _*_, _/_, _%_, _^_}
 use mathlib.Core.List.{List, [], _∷_}
 use mathlib.Core.Bool.{Bool}
 use lib.Dec.{eqb, leb, ltb}
+use lib.ListN.{length, getD, set}
 use Rattle.words.specs.Pick.{pick, both}
 use Rattle.words.specs.Codes.{compareBits}
 use Rattle.pages.specs.declared.Access.{Access}
@@ -13,10 +14,7 @@ use Rattle.pages.specs.Look.{lookOf}
 use Rattle.pages.specs.Framed.{Framed, accessedAt, readByte, writeByte}
 use Rattle.fields.specs.declared.Field.{Field}
 
--- a field in one half page of a memory of whole half pages, and one in one page
-unfoldable pub near : ℕ → ℕ → ℕ → Bool
-near a n size = both (ltb 0 n) (both (leb (a % 2048 + n) 2048) (eqb (size % 2048) 0))
-
+-- a field in one page
 unfoldable pub onPage : ℕ → ℕ → Bool
 onPage a n = both (ltb 0 n) (both (leb (a % 4096 + n) 4096) (ltb a 16777216))
 
@@ -59,3 +57,21 @@ unfoldable pub compareField : Framed → ℕ → ℕ → ℕ → ℕ
 compareField s a b zero = 0
 compareField s a b (suc n) =
     pick (eqb (readByte s a) (readByte s b)) (compareField s (next a) (next b) n) (compareBits (readByte s a) (readByte s b))
+
+-- by real address: n bytes from r on, as they lie in memory
+unfoldable pub flat : List ℕ → ℕ → ℕ → ℕ → ℕ
+flat mem r zero v = v
+flat mem r (suc n) v = flat mem (r + 1) n (v * 256 + getD mem r 0)
+
+unfoldable pub flatPut : List ℕ → ℕ → ℕ → ℕ → List ℕ
+flatPut mem r zero v = mem
+flatPut mem r (suc n) v = flatPut (set mem r (v / 256 ^ n % 256)) (r + 1) n v
+
+unfoldable pub flatMove : List ℕ → ℕ → ℕ → ℕ → List ℕ
+flatMove mem a b zero = mem
+flatMove mem a b (suc n) = flatMove (set mem a (getD mem b 0)) (a + 1) (b + 1) n
+
+unfoldable pub flatCompare : List ℕ → ℕ → ℕ → ℕ → ℕ
+flatCompare mem a b zero = 0
+flatCompare mem a b (suc n) =
+    pick (eqb (getD mem a 0) (getD mem b 0)) (flatCompare mem (a + 1) (b + 1) n) (compareBits (getD mem a 0) (getD mem b 0))

@@ -1,15 +1,20 @@
-// Fields of bytes in storage: looked up before anything is stored, noted, read, written, moved and compared.
+// Fields of bytes in storage: looked up before anything is stored, noted, read, written, moved and compared. A field that lies whole in
+// one ordinary page takes the quick way, by real address; any other goes byte by byte.
+pub mod flat; // flat.rt: fields by real address
+
 use code::Width;
 use pages::Access;
 use pages::Look;
 ghost use mathlib.Core.Path.{_≡_};
-ghost use Prim.Native.Nat.{_<_, _+_, _*_, _/_, _%_};
+ghost use mathlib.Core.Bool.{not};
+ghost use lib.Dec.{eqb};
+ghost use Prim.Native.Nat.{_<_, _≤_, _+_, _%_};
 ghost use mathlib.Core.List.{[], _∷_};
-ghost use lib.ListN.{length, getD, set};
+ghost use lib.ListN.{length};
 ghost use Rattle.machine.specs.Fields.{bytesOf};
 ghost use Rattle.pages.specs.Framed.{framedOf};
 ghost use Rattle.pages.specs.Look.{lookOf};
-ghost use Rattle.fields.specs.Direct.{near, onPage, lookFields, lookOne, noteField, readField, writeField, moveField, compareField};
+ghost use Rattle.fields.specs.Direct.{onPage, lookFields, lookOne, noteField, readField, writeField, moveField, compareField, flatMove, flatCompare};
 
 // So many bytes from an address on, and what they are wanted for.
 pub struct Field {
@@ -26,7 +31,7 @@ fn look_first(map: &[u16], size: usize, f: Field) -> Look
 }
 
 // Every byte of both fields is looked up, first field, then second: the first refusal, or the first byte's real address.
-pub fn look_two(map: &[u16], size: usize, first: Field, second: Field) -> Look
+fn look_each(map: &[u16], size: usize, first: Field, second: Field) -> Look
     ensures { λ r. ⌜ r ≡ lookFields (now (map .entry)) size (first ∷ second ∷ []) (lookOf (now (map .entry)) size (first .access) (first .at)) ⌝ }
 {
     let fields = [first, second];
@@ -51,25 +56,26 @@ pub fn look_two(map: &[u16], size: usize, first: Field, second: Field) -> Look
     found
 }
 
-// Whether a field lies in one half page of a memory of whole half pages: then its first byte's look-up is that of all.
-fn is_near(at: u32, len: u32, size: usize) -> bool
-    ensures { λ r. ⌜ r ≡ near at len size ⌝ }
+// Two fields, at once where both are plain.
+pub fn look_two(map: &[u16], size: usize, first: Field, second: Field) -> Look
+    ensures { λ r. ⌜ r ≡ lookFields (now (map .entry)) size (first ∷ second ∷ []) (lookOf (now (map .entry)) size (first .access) (first .at)) ⌝ }
 {
-    if len == 0 {
-        return false;
+    let access = first.access;
+    let other = second.access;
+    if pages::is_plain(map, size, access, first.at, first.len) {
+        if pages::is_plain(map, size, other, second.at, second.len) {
+            return Look::At(pages::real_at(map, first.at));
+        }
     }
-    if 2048 - at % 2048 < len {
-        return false;
-    }
-    size % 2048 == 0
+    look_each(map, size, first, second)
 }
 
-// One field: by one look-up where that is enough.
+// One field, at once where it is plain.
 pub fn look_one(map: &[u16], size: usize, access: Access, at: u32, len: u32) -> Look
     ensures { λ r. ⌜ r ≡ lookOne (now (map .entry)) size access at len ⌝ }
 {
-    if is_near(at, len, size) {
-        return pages::look_up(map, size, access, at);
+    if pages::is_plain(map, size, access, at, len) {
+        return Look::At(pages::real_at(map, at));
     }
     let field = Field {
         access: access,
@@ -81,7 +87,7 @@ pub fn look_one(map: &[u16], size: usize, access: Access, at: u32, len: u32) -> 
         at: at,
         len: 0,
     };
-    look_two(map, size, field, nothing)
+    look_each(map, size, field, nothing)
 }
 
 // G set on the page of each byte: at once where they have one page.
@@ -120,6 +126,17 @@ fn note_each(map: &mut [u16], at: u32, len: u32)
     }
 }
 
+// Whether an operand lies off its boundary.
+pub fn is_off(at: u32, width: Width) -> bool
+    ensures { λ r. ⌜ r ≡ not (eqb (at % bytesOf width) 0) ⌝ }
+{
+    match width {
+        Width::Word => at % 4 != 0,
+        Width::Half => at % 2 != 0,
+        Width::Byte => false,
+    }
+}
+
 pub fn bytes_of(width: Width) -> u32
     ensures { λ r. ⌜ (r ≡ bytesOf width) × (0 < r) ⌝ }
 {
@@ -128,28 +145,6 @@ pub fn bytes_of(width: Width) -> u32
         Width::Half => 2,
         Width::Byte => 1,
     }
-}
-
-fn wide(b: u8) -> u32
-    ensures { λ r. ⌜ (r ≡ b) × (r < 256) ⌝ }
-{
-    b as u32
-}
-
-// The word of four bytes from a real address on.
-fn word_in(mem: &[u8], r: usize) -> u32
-    requires { ⌜ r + 3 < length (now mem) ⌝ }
-    ensures { λ v. ⌜ v ≡ getD (now (mem .entry)) r 0 * 16777216 + getD (now (mem .entry)) (r + 1) 0 * 65536 + getD (now (mem .entry)) (r + 2) 0 * 256 + getD (now (mem .entry)) (r + 3) 0 ⌝ }
-{
-    wide(mem[r]) * 16777216 + wide(mem[r + 1]) * 65536 + wide(mem[r + 2]) * 256 + wide(mem[r + 3])
-}
-
-fn half_in(mem: &[u8], r: usize) -> u16
-    requires { ⌜ r + 1 < length (now mem) ⌝ }
-    ensures { λ v. ⌜ v ≡ getD (now (mem .entry)) r 0 * 256 + getD (now (mem .entry)) (r + 1) 0 ⌝ }
-{
-    let v = wide(mem[r]) * 256 + wide(mem[r + 1]);
-    v as u16
 }
 
 fn half_each(mem: &[u8], map: &[u16], at: u32) -> u16
@@ -163,12 +158,8 @@ fn half_each(mem: &[u8], map: &[u16], at: u32) -> u16
 pub fn read_half(mem: &[u8], map: &[u16], at: u32) -> u16
     ensures { λ r. ⌜ r ≡ readField (framedOf (now (mem .entry)) (now (map .entry))) at 2 0 ⌝ }
 {
-    if is_near(at, 2, mem.len()) {
-        let found = pages::look_up(map, mem.len(), Access::Load, at);
-        let Look::At(r) = found else {
-            return half_each(mem, map, at);
-        };
-        return half_in(mem, r);
+    if pages::is_plain(map, mem.len(), Access::Load, at, 2) {
+        return flat::half_of(mem, pages::real_at(map, at));
     }
     half_each(mem, map, at)
 }
@@ -184,28 +175,13 @@ fn word_each(mem: &[u8], map: &[u16], at: u32) -> u32
 pub fn read_word(mem: &[u8], map: &[u16], at: u32) -> u32
     ensures { λ r. ⌜ r ≡ readField (framedOf (now (mem .entry)) (now (map .entry))) at 4 0 ⌝ }
 {
-    if is_near(at, 4, mem.len()) {
-        let found = pages::look_up(map, mem.len(), Access::Load, at);
-        let Look::At(r) = found else {
-            return word_each(mem, map, at);
-        };
-        return word_in(mem, r);
+    if pages::is_plain(map, mem.len(), Access::Load, at, 4) {
+        return flat::word_of(mem, pages::real_at(map, at));
     }
     word_each(mem, map, at)
 }
 
-// An operand of this width.
-pub fn read_field(mem: &[u8], map: &[u16], at: u32, width: Width) -> u32
-    ensures { λ r. ⌜ r ≡ readField (framedOf (now (mem .entry)) (now (map .entry))) at (bytesOf width) 0 ⌝ }
-{
-    match width {
-        Width::Word => read_word(mem, map, at),
-        Width::Half => read_half(mem, map, at) as u32,
-        Width::Byte => pages::read_byte(mem, map, at) as u32,
-    }
-}
-
-pub fn write_half(mem: &mut [u8], map: &mut [u16], at: u32, v: u16)
+fn write_half(mem: &mut [u8], map: &mut [u16], at: u32, v: u16)
     ensures { λ _. ⌜ framedOf (now (mem .exit)) (now (map .exit)) ≡ writeField (framedOf (now (mem .entry)) (now (map .entry))) at 2 v ⌝ }
 {
     pages::write_byte(mem, map, at, (v / 256) as u8);
@@ -224,53 +200,51 @@ fn word_put_each(mem: &mut [u8], map: &mut [u16], at: u32, v: u32)
     );
 }
 
-fn put_at(mem: &mut [u8], r: usize, v: u8)
-    requires { ⌜ r < length (now mem) ⌝ }
-    ensures { λ _. ⌜ now (mem .exit) ≡ set (now (mem .entry)) r v ⌝ }
-{
-    mem[r] = v;
-}
-
-// A word to four bytes from a real address on.
-fn word_to(mem: &mut [u8], r: usize, v: u32)
-    requires { ⌜ r + 3 < length (now mem) ⌝ }
-    ensures { λ _. ⌜ now (mem .exit) ≡ set (set (set (set (now (mem .entry)) r (v / 16777216 % 256)) (r + 1) (v / 65536 % 256)) (r + 2) (v / 256 % 256)) (r + 3) (v % 256) ⌝ }
-{
-    put_at(mem, r, (v / 16777216 % 256) as u8);
-    put_at(mem, r + 1, (v / 65536 % 256) as u8);
-    put_at(mem, r + 2, (v / 256 % 256) as u8);
-    put_at(mem, r + 3, (v % 256) as u8);
-}
-
 pub fn write_word(mem: &mut [u8], map: &mut [u16], at: u32, v: u32)
     ensures { λ _. ⌜ framedOf (now (mem .exit)) (now (map .exit)) ≡ writeField (framedOf (now (mem .entry)) (now (map .entry))) at 4 v ⌝ }
 {
-    if is_near(at, 4, mem.len()) {
-        let found = pages::look_up(map, mem.len(), Access::Store, at);
-        let Look::At(r) = found else {
-            word_put_each(mem, map, at, v);
-            return;
-        };
-        word_to(mem, r, v);
+    if pages::is_plain(map, mem.len(), Access::Store, at, 4) {
+        flat::put_word(mem, pages::real_at(map, at), v);
         pages::note_written(map, at);
         return;
     }
     word_put_each(mem, map, at, v);
 }
 
-// The low bytes of v, as many as the width has.
-pub fn write_field(mem: &mut [u8], map: &mut [u16], at: u32, width: Width, v: u32)
-    ensures { λ _. ⌜ framedOf (now (mem .exit)) (now (map .exit)) ≡ writeField (framedOf (now (mem .entry)) (now (map .entry))) at (bytesOf width) v ⌝ }
+// At once where both fields are plain.
+pub fn move_field(mem: &mut [u8], map: &mut [u16], to: u32, from: u32, len: u32)
+    ensures { λ _. ⌜ framedOf (now (mem .exit)) (now (map .exit)) ≡ moveField (framedOf (now (mem .entry)) (now (map .entry))) to from len ⌝ }
 {
-    match width {
-        Width::Word => write_word(mem, map, at, v),
-        Width::Half => write_half(mem, map, at, (v % 65536) as u16),
-        Width::Byte => pages::write_byte(mem, map, at, (v % 256) as u8),
+    if pages::is_plain(map, mem.len(), Access::Store, to, len) {
+        if pages::is_plain(map, mem.len(), Access::Load, from, len) {
+            let a = pages::real_at(map, to);
+            let b = pages::real_at(map, from);
+            move_flat(mem, a, b, len);
+            pages::note_written(map, to);
+            return;
+        }
+    }
+    move_each(mem, map, to, from, len);
+}
+
+// By real address, left to right.
+fn move_flat(mem: &mut [u8], to: usize, from: usize, len: u32)
+    requires { ⌜ (to + len ≤ length (now mem)) × (from + len ≤ length (now mem)) ⌝ }
+    ensures { λ _. ⌜ now (mem .exit) ≡ flatMove (now (mem .entry)) to from len ⌝ }
+{
+    let mut a = to;
+    let mut b = from;
+    let mut left = len;
+    while 0 < left {
+        mem[a] = mem[b];
+        a = a + 1;
+        b = b + 1;
+        left = left - 1;
     }
 }
 
 // Byte by byte, left to right.
-pub fn move_field(mem: &mut [u8], map: &mut [u16], to: u32, from: u32, len: u32)
+fn move_each(mem: &mut [u8], map: &mut [u16], to: u32, from: u32, len: u32)
     ensures { λ _. ⌜ framedOf (now (mem .exit)) (now (map .exit)) ≡ moveField (framedOf (now (mem .entry)) (now (map .entry))) to from len ⌝ }
 {
     let mut a = to;
@@ -285,8 +259,44 @@ pub fn move_field(mem: &mut [u8], map: &mut [u16], to: u32, from: u32, len: u32)
     }
 }
 
-// The code of the first two bytes that differ, or 0.
-pub fn compare_field(mem: &[u8], map: &[u16], first: u32, second: u32, len: u32) -> u8
+// The code of the first two bytes that differ, or 0: at once where both fields are plain.
+pub fn compare_field(mem: &[u8], map: &[u16], first: u32, second: u32, len: u32) -> u32
+    ensures { λ r. ⌜ r ≡ compareField (framedOf (now (mem .entry)) (now (map .entry))) first second len ⌝ }
+{
+    if pages::is_plain(map, mem.len(), Access::Load, first, len) {
+        if pages::is_plain(map, mem.len(), Access::Load, second, len) {
+            let a = pages::real_at(map, first);
+            let b = pages::real_at(map, second);
+            return compare_flat(mem, a, b, len);
+        }
+    }
+    compare_each(mem, map, first, second, len)
+}
+
+fn compare_flat(mem: &[u8], first: usize, second: usize, len: u32) -> u32
+    requires { ⌜ (first + len ≤ length (now mem)) × (second + len ≤ length (now mem)) ⌝ }
+    ensures { λ r. ⌜ r ≡ flatCompare (now (mem .entry)) first second len ⌝ }
+{
+    let mut a = first;
+    let mut b = second;
+    let mut left = len;
+    while 0 < left {
+        let x = mem[a];
+        let y = mem[b];
+        if x < y {
+            return 1;
+        }
+        if y < x {
+            return 2;
+        }
+        a = a + 1;
+        b = b + 1;
+        left = left - 1;
+    }
+    0
+}
+
+fn compare_each(mem: &[u8], map: &[u16], first: u32, second: u32, len: u32) -> u32
     ensures { λ r. ⌜ r ≡ compareField (framedOf (now (mem .entry)) (now (map .entry))) first second len ⌝ }
 {
     let mut a = first;

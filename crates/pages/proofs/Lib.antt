@@ -1,3 +1,4 @@
 pub mod LookLaws
 pub mod StoreLaws
 pub mod Marks
+pub mod PlainLaws

@@ -7,7 +7,7 @@ use mathlib.Core.Path.{_≡_, refl, sym, _∙_, ap, subst}
 use mathlib.Core.Logic.{_≢_}
 use mathlib.Core.List.{List}
 use lib.ListN.{length, getD, set, length-set, List·getD-eq-default}
-use lib.Seq.{getD-set-same, getD-set-other, set-out, set-set, set-comm}
+use lib.Seq.{getD-set-same, getD-set-other, set-out, set-set, set-comm, set-getD}
 use Rattle.pages.specs.declared.Access.{Access}
 use Rattle.pages.specs.Word.{bitU, bitS, bitE, bitM, bitH, bitsX, frame, base, size, real, wordOf, pageOf, dispOf, accessed, written}
 use Rattle.pages.specs.Tests.{tests, table}
@@ -132,3 +132,24 @@ changed-comm f g k p r map = same (ℕ-discrete p r)
 pub accessed-written : (w : ℕ) → accessed (written w) ≡ written (accessed w)
 unfolding accessed written
 accessed-written w = omega arith
+
+-- a mark that is there already need not be set
+pub accessed-new : (w : ℕ) → w / 16384 % 2 ≡ 0 → w + 16384 ≡ accessed w
+unfolding accessed
+accessed-new w h = omega arith
+
+pub accessed-old : (map : List ℕ) (p w : ℕ) → w ≡ getD map p 0 → (w / 16384 % 2 ≡ 0 → ⊥) → map ≡ set map p (accessed w)
+unfolding accessed
+accessed-old map p w e h =
+    let k : w / 32768 * 32768 + 16384 + w % 16384 ≡ w = omega arith in
+    sym (set-getD map p 0) ∙ ap (λ (v : ℕ). set map p v) (sym e ∙ sym k)
+
+pub written-new : (w : ℕ) → w < 32768 → w + 32768 ≡ written w
+unfolding written
+written-new w h = omega arith
+
+pub written-old : (map : List ℕ) (p w : ℕ) → w ≡ getD map p 0 → 32768 ≤ w → w < 65536 → map ≡ set map p (written w)
+unfolding written
+written-old map p w e h l =
+    let k : 32768 + w % 32768 ≡ w = omega arith in
+    sym (set-getD map p 0) ∙ ap (λ (v : ℕ). set map p v) (sym e ∙ sym k)

@@ -7,6 +7,7 @@ ghost use Rattle.words.specs.Pick.{both};
 ghost use Rattle.pages.specs.Word.{next, pageOf, dispOf, wordOf, base, bitM, bitE, accessed, written};
 ghost use Rattle.pages.specs.Tests.{isStore};
 ghost use Rattle.pages.specs.Look.{lookOf};
+ghost use Rattle.pages.specs.Plain.{realOf, ordinary, plain};
 ghost use Rattle.pages.specs.Framed.{framedOf, accessedAt, writtenAt, readByte, writeByte};
 
 // What a byte is wanted for.
@@ -93,25 +94,48 @@ fn base_of(w: u16) -> usize
     f
 }
 
-// A byte's look-up in a memory of n bytes. An ordinary page (U and S set; E, M, H and X reset) is told by one test.
-pub fn look_up(map: &[u16], n: usize, access: Access, a: u32) -> Look
-    ensures { λ r. ⌜ r ≡ lookOf (now (map .entry)) n access a ⌝ }
+// U and S set, M, H and X reset, and for a store E reset too.
+fn is_ordinary(w: u16, access: Access) -> bool
+    ensures { λ r. ⌜ r ≡ ordinary w access ⌝ }
 {
-    if a < 2097152 {
-        let w = word_for(map, a);
-        if w / 64 % 256 == 192 {
-            let real = (w % 64) as usize * 4096 + (a % 4096) as usize;
-            if real < n {
-                return Look::At(real);
-            }
-            return Look::Refused(Cause::Addressing, a);
-        }
+    if w / 4096 % 4 != 3 {
+        return false;
     }
-    look_by_tests(map, n, access, a)
+    if w / 64 % 32 != 0 {
+        return false;
+    }
+    !denied(w, access)
 }
 
-// Document 01's tests 1 to 7, in order.
-fn look_by_tests(map: &[u16], n: usize, access: Access, a: u32) -> Look
+// Whether a field lies whole in one ordinary page, and in a memory of n bytes: then it needs no byte-by-byte look-up.
+pub fn is_plain(map: &[u16], n: usize, access: Access, a: u32, len: u32) -> bool
+    ensures { λ r. ⌜ r ≡ plain (now (map .entry)) n access a len ⌝ }
+{
+    if len == 0 {
+        return false;
+    }
+    if 2097152 <= a {
+        return false;
+    }
+    if 4096 - a % 4096 < len {
+        return false;
+    }
+    let w = word_for(map, a);
+    if is_ordinary(w, access) {
+        return base_of(w) + (a % 4096) as usize + len as usize <= n;
+    }
+    false
+}
+
+// Where an address lies in memory, if its page is there.
+pub fn real_at(map: &[u16], a: u32) -> usize
+    ensures { λ r. ⌜ (r ≡ realOf (now (map .entry)) a) × (r < 266240) ⌝ }
+{
+    base_of(word_for(map, a)) + (a % 4096) as usize
+}
+
+// A byte's look-up in a memory of n bytes: document 01's tests 1 to 7, in order.
+pub fn look_up(map: &[u16], n: usize, access: Access, a: u32) -> Look
     ensures { λ r. ⌜ r ≡ lookOf (now (map .entry)) n access a ⌝ }
 {
     if 2097152 <= a {
@@ -147,7 +171,9 @@ pub fn note(map: &mut [u16], a: u32)
     let page = (a / 4096) as usize;
     if page < map.len() {
         let w = map[page];
-        map[page] = w / 32768 * 32768 + 16384 + w % 16384;
+        if w / 16384 % 2 == 0 {
+            map[page] = w + 16384;
+        }
     }
 }
 
@@ -158,7 +184,9 @@ pub fn note_written(map: &mut [u16], a: u32)
     let page = (a / 4096) as usize;
     if page < map.len() {
         let w = map[page];
-        map[page] = 32768 + w % 32768;
+        if w < 32768 {
+            map[page] = w + 32768;
+        }
     }
 }
 

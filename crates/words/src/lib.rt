@@ -31,14 +31,14 @@ pub enum Alu {
     Bits(Logic),
 }
 
-// A word, the condition code, and whether a signed result overflowed.
+// A word, the condition code, and whether a signed result overflowed; not of eight bytes, as actions::Now is not.
 pub struct Res {
     pub value: u32,
-    pub code: u8,
+    pub code: u32,
     pub over: bool,
 }
 
-pub fn combine(op: Alu, a: u32, b: u32, code: u8) -> Res
+pub fn combine(op: Alu, a: u32, b: u32, code: u32) -> Res
     ensures { λ r. ⌜ r ≡ combineOf op a b code ⌝ }
 {
     match op {
@@ -77,13 +77,13 @@ pub fn logic_byte(op: Logic, a: u8, b: u8) -> u8
     }
 }
 
-pub fn zero_code(v: u32) -> u8
+pub fn zero_code(v: u32) -> u32
     ensures { λ r. ⌜ r ≡ zeroCode v ⌝ }
 {
     if v == 0 { 0 } else { 1 }
 }
 
-pub fn compare_bits(a: u32, b: u32) -> u8
+pub fn compare_bits(a: u32, b: u32) -> u32
     ensures { λ r. ⌜ r ≡ compareBits a b ⌝ }
 {
     if a < b {
@@ -92,7 +92,7 @@ pub fn compare_bits(a: u32, b: u32) -> u8
     if b < a { 2 } else { 0 }
 }
 
-pub fn mask_code(b: u8, mask: u8) -> u8
+pub fn mask_code(b: u8, mask: u8) -> u32
     ensures { λ r. ⌜ r ≡ maskCode b mask ⌝ }
 {
     let chosen = b & mask;

@@ -7,7 +7,7 @@ use crate::Logic;
 use crate::Res;
 
 // A word with a code; nothing overflowed.
-pub fn plain(value: u32, code: u8) -> Res
+pub fn plain(value: u32, code: u32) -> Res
     ensures { λ r. ⌜ r ≡ def.plain value code ⌝ }
 {
     Res {

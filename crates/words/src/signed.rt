@@ -28,7 +28,7 @@ pub fn overflow(t: u64) -> bool
     6442450943 < t
 }
 
-pub fn sign_code(t: u64) -> u8
+pub fn sign_code(t: u64) -> u32
     ensures { λ r. ⌜ r ≡ signCode (subℕ t 4294967296) ⌝ }
 {
     if t < 4294967296 {
@@ -102,7 +102,7 @@ pub fn subtract(a: u32, b: u32) -> Res
     result(4294967296 + lift(a) as u64 - lift(b) as u64)
 }
 
-pub fn compare(a: u32, b: u32) -> u8
+pub fn compare(a: u32, b: u32) -> u32
     ensures { λ r. ⌜ r ≡ compareSigned (signed word a) (signed word b) ⌝ }
 {
     crate::compare_bits(lift(a), lift(b))

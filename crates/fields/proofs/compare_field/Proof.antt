@@ -1,70 +1,55 @@
+use Rattle.fields.proofs.Together.{plain-room, plain-compare}
 use borrow.Author.Needs.{needs}
-use Prim.Native.Nat.{_≤_, _-_}
-use native.Mathlib.Omega.{arith}
-use mathlib.Core.Path.{_≡_, refl, sym, _∙_}
-use Rattle.pages.specs.Framed.{framedOf}
-use Rattle.fields.specs.Direct.{compareField}
-use Rattle.fields.proofs.Loops.{compare-turn, compare-none, compare-low, compare-high}
 use Rattle.fields.proofs.compare_field.Statement.{statement}
 use Rattle.fields.proofs.compare_field.Tie as tie
 use Rattle.fields.proofs.compare_field.Reads as reads
 use Rattle.fields.proofs.compare_field.Lts as lts
-use Rattle.pages.proofs.next_of.Reads as next-of-reads
-use Rattle.pages.proofs.read_byte.Reads as read-byte-reads
+use Rattle.fields.proofs.compare_each.Reads as compare-each-reads
+use Rattle.fields.proofs.compare_flat.Reads as compare-flat-reads
+use Rattle.pages.proofs.is_plain.Reads as is-plain-reads
+use Rattle.pages.proofs.real_at.Reads as real-at-reads
 
-abbrev Inv-loop : tie.InvT-loop
-Inv-loop mem map first second len a₀ b₀ left₀ a b left = compareField (framedOf mem map) first second len ≡ compareField (framedOf mem map) a b left
+-- src/lib.rt:266:8
+is-plain-requires : tie.Need-is-plain-requires
+is-plain-requires c κs = search needs
 
-abbrev μ-loop : tie.MeasureT-loop
-μ-loop mem map first second len a₀ b₀ left₀ a b left = left
+-- src/lib.rt:267:12
+is-plain-requires-2 : tie.Need-is-plain-requires-2
+is-plain-requires-2 c κs = search needs
 
-loop-holds : tie.Need-loop-holds Inv-loop μ-loop
-loop-holds c = refl
+-- src/lib.rt:268:17
+real-at-requires : tie.Need-real-at-requires
+real-at-requires c κs = search needs
 
-read-byte-requires : tie.Need-read-byte-requires Inv-loop μ-loop
-read-byte-requires c κs = search needs
+-- src/lib.rt:269:17
+real-at-requires-2 : tie.Need-real-at-requires-2
+real-at-requires-2 c κs = search needs
 
-read-byte-requires-2 : tie.Need-read-byte-requires-2 Inv-loop μ-loop
-read-byte-requires-2 c κs = search needs
+-- src/lib.rt:270:13
+compare-flat-requires : tie.Need-compare-flat-requires
+compare-flat-requires c κs = (plain-room _ _ _ _ _ _ (c .before .before .before .before .before .is-plain .ensures) (c .before .before .before .before .if1 .taken) _ ((c .before .real-at .ensures) .0), plain-room _ _ _ _ _ _ (c .before .before .before .is-plain2 .ensures) (c .before .before .if2 .taken) _ ((c .real-at2 .ensures) .0))
 
-returns : tie.Need-returns Inv-loop μ-loop
-returns c = compare-low _ _ _ _ _ (c .before .before .read-byte .ensures) (c .before .read-byte2 .ensures) _ (c .before .before .before .loop-test .taken) (c .if1 .taken) ∙ sym (c .before .before .before .before .loop .inv)
+-- src/lib.rt:270:13
+returns : tie.Need-returns
+returns c = plain-compare _ _ _ _ _ _ _ (c .before .before .before .before .is-plain2 .ensures) (c .before .before .before .if2 .taken) _ _ ((c .before .before .real-at .ensures) .0) ((c .before .real-at2 .ensures) .0) (c .before .before .before .before .before .before .is-plain .ensures) (c .before .before .before .before .before .if1 .taken) _ (c .compare-flat .ensures)
 
-returns-2 : tie.Need-returns-2 Inv-loop μ-loop
-returns-2 c = compare-high _ _ _ _ _ (c .before .before .before .read-byte .ensures) (c .before .before .read-byte2 .ensures) _ (c .before .before .before .before .loop-test .taken) (c .if2 .taken) ∙ sym (c .before .before .before .before .before .loop .inv)
+-- src/lib.rt:273:5
+compare-each-requires : tie.Need-compare-each-requires
+compare-each-requires c κs = search needs
 
-next-of-requires : tie.Need-next-of-requires Inv-loop μ-loop
-next-of-requires c κs = search needs
-
-next-of-requires-2 : tie.Need-next-of-requires-2 Inv-loop μ-loop
-next-of-requires-2 c κs = search needs
-
-sub-left : tie.Need-sub-left Inv-loop μ-loop
-sub-left c = search needs
-
-loop-less : tie.Need-loop-less Inv-loop μ-loop
-loop-less c = omega arith
-
-loop-again : tie.Need-loop-again Inv-loop μ-loop
-loop-again c = rw ((c .before .next-of .ensures), (c .next-of2 .ensures)) ((c .before .before .before .before .before .before .before .loop .inv) ∙ compare-turn _ _ _ _ _ (c .before .before .before .before .before .read-byte .ensures) (c .before .before .before .before .read-byte2 .ensures) _ (c .before .before .before .before .before .before .loop-test .taken) (c .before .before .before .if1 .left) (c .before .before .if2 .left))
-
-returns-3 : tie.Need-returns-3 Inv-loop μ-loop
-returns-3 c = sym ((c .before .loop .inv) ∙ compare-none _ (c .loop-test .left) _ _ _)
+-- src/lib.rt:263:1
+returns-2 : tie.Need-returns-2
+returns-2 c = search needs
 
 pub compare-field-spec : {M : Type 1} → statement M
 compare-field-spec =
     tie.close
     (tie.spec
-    Inv-loop
-    μ-loop
-    loop-holds
-    read-byte-requires
-    read-byte-requires-2
+    is-plain-requires
+    is-plain-requires-2
+    real-at-requires
+    real-at-requires-2
+    compare-flat-requires
     returns
-    returns-2
-    next-of-requires
-    next-of-requires-2
-    sub-left
-    loop-less
-    loop-again
-    returns-3)
+    compare-each-requires
+    returns-2)

@@ -1,30 +1,35 @@
 use Rattle.fields.specs.Direct.{lookOne, lookFields, lookField}
-use Rattle.fields.proofs.Near.{near-look}
+use Rattle.fields.proofs.Together.{plain-look}
 use borrow.Author.Needs.{needs}
 use Rattle.fields.proofs.look_one.Statement.{statement}
 use Rattle.fields.proofs.look_one.Tie as tie
 use Rattle.fields.proofs.look_one.Reads as reads
 use Rattle.fields.proofs.look_one.Lts as lts
-use Rattle.fields.proofs.is_near.Reads as is-near-reads
-use Rattle.fields.proofs.look_two.Reads as look-two-reads
-use Rattle.pages.proofs.look_up.Reads as look-up-reads
+use Rattle.fields.proofs.look_each.Reads as look-each-reads
+use Rattle.pages.proofs.is_plain.Reads as is-plain-reads
+use Rattle.pages.proofs.real_at.Reads as real-at-reads
 
-is-near-requires : tie.Need-is-near-requires
-is-near-requires c κs = search needs
+-- src/lib.rt:77:8
+is-plain-requires : tie.Need-is-plain-requires
+is-plain-requires c κs = search needs
 
-look-up-requires : tie.Need-look-up-requires
-look-up-requires c κs = search needs
+-- src/lib.rt:78:25
+real-at-requires : tie.Need-real-at-requires
+real-at-requires c κs = search needs
 
+-- src/lib.rt:78:9
 returns : tie.Need-returns
-returns c = near-look _ _ _ _ (c .before .before .is-near .ensures) (c .before .if1 .taken) _ _ _ (c .look-up .ensures)
+returns c = plain-look _ _ _ _ _ _ (c .before .before .is-plain .ensures) (c .before .if1 .taken) _ ((c .real-at .ensures) .0)
 
-look-two-requires : tie.Need-look-two-requires
-look-two-requires c κs = search needs
+-- src/lib.rt:90:5
+look-each-requires : tie.Need-look-each-requires
+look-each-requires c κs = search needs
 
+-- src/lib.rt:74:1
 returns-2 : tie.Need-returns-2
 unfolding lookOne lookFields lookField
-returns-2 c = (c .look-two .ensures)
+returns-2 c = (c .look-each .ensures)
 
 pub look-one-spec : {M : Type 1} → statement M
 look-one-spec =
-    tie.close (tie.spec is-near-requires look-up-requires returns look-two-requires returns-2)
+    tie.close (tie.spec is-plain-requires real-at-requires returns look-each-requires returns-2)

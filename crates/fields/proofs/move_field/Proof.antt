@@ -1,72 +1,81 @@
+use Rattle.fields.proofs.Together.{plain-room, plain-move}
 use borrow.Author.Needs.{needs}
-use Prim.Native.Nat.{_≤_, _-_}
-use native.Mathlib.Omega.{arith}
-use mathlib.Core.Path.{_≡_, refl, sym, _∙_}
-use lib.ListN.{length}
-use Rattle.pages.specs.Framed.{framedOf}
-use Rattle.fields.specs.Direct.{moveField}
-use Rattle.fields.proofs.Loops.{move-turn, move-none}
 use Rattle.fields.proofs.move_field.Statement.{statement}
 use Rattle.fields.proofs.move_field.Tie as tie
 use Rattle.fields.proofs.move_field.Reads as reads
 use Rattle.fields.proofs.move_field.Lts as lts
-use Rattle.pages.proofs.next_of.Reads as next-of-reads
-use Rattle.pages.proofs.read_byte.Reads as read-byte-reads
-use Rattle.pages.proofs.write_byte.Reads as write-byte-reads
+use Rattle.fields.proofs.move_each.Reads as move-each-reads
+use Rattle.fields.proofs.move_flat.Reads as move-flat-reads
+use Rattle.pages.proofs.is_plain.Reads as is-plain-reads
+use Rattle.pages.proofs.note_written.Reads as note-written-reads
+use Rattle.pages.proofs.real_at.Reads as real-at-reads
 
-abbrev Inv-loop : tie.InvT-loop
-Inv-loop mem₀ map₀ to from len a₀ b₀ left₀ mem map a b left = (moveField (framedOf mem₀ map₀) to from len ≡ moveField (framedOf mem map) a b left) × (length mem ≡ length mem₀) × (length map ≡ length map₀)
+-- src/lib.rt:218:8
+is-plain-requires : tie.Need-is-plain-requires
+is-plain-requires c κs = search needs
 
-abbrev μ-loop : tie.MeasureT-loop
-μ-loop mem₀ map₀ to from len a₀ b₀ left₀ mem map a b left = left
+-- src/lib.rt:219:12
+is-plain-requires-2 : tie.Need-is-plain-requires-2
+is-plain-requires-2 c κs = search needs
 
-loop-holds : tie.Need-loop-holds Inv-loop μ-loop
-loop-holds c = (refl, refl, refl)
+-- src/lib.rt:220:17
+real-at-requires : tie.Need-real-at-requires
+real-at-requires c κs = search needs
 
-read-byte-requires : tie.Need-read-byte-requires Inv-loop μ-loop
-read-byte-requires c κs = search needs
+-- src/lib.rt:221:17
+real-at-requires-2 : tie.Need-real-at-requires-2
+real-at-requires-2 c κs = search needs
 
-write-byte-requires : tie.Need-write-byte-requires Inv-loop μ-loop
-write-byte-requires c κs = search needs
+-- src/lib.rt:222:13
+move-flat-requires : tie.Need-move-flat-requires
+move-flat-requires c κs = (plain-room _ _ _ _ _ _ (c .before .before .before .before .before .before .before .before .before .is-plain .ensures) (c .before .before .before .before .before .before .before .before .if1 .taken) _ ((c .before .before .before .real-at .ensures) .0), plain-room _ _ _ _ _ _ (c .before .before .before .before .before .before .is-plain2 .ensures) (c .before .before .before .before .before .if2 .taken) _ ((c .before .real-at2 .ensures) .0))
 
-next-of-requires : tie.Need-next-of-requires Inv-loop μ-loop
-next-of-requires c κs = search needs
+-- src/lib.rt:223:13
+note-written-requires : tie.Need-note-written-requires
+note-written-requires c κs = search needs
 
-next-of-requires-2 : tie.Need-next-of-requires-2 Inv-loop μ-loop
-next-of-requires-2 c κs = search needs
+-- src/lib.rt:224:13
+same-length : tie.Need-same-length
+same-length c = search needs
 
-sub-left : tie.Need-sub-left Inv-loop μ-loop
-sub-left c = search needs
+-- src/lib.rt:224:13
+same-length-2 : tie.Need-same-length-2
+same-length-2 c = search needs
 
-loop-less : tie.Need-loop-less Inv-loop μ-loop
-loop-less c = omega arith
+-- src/lib.rt:224:13
+returns : tie.Need-returns
+returns c = plain-move _ _ _ _ _ _ _ (c .before .before .before .before .before .before .before .before .before .before .before .before .before .is-plain2 .ensures) (c .before .before .before .before .before .before .before .before .before .before .before .before .if2 .taken) _ _ ((c .before .before .before .before .before .before .before .before .before .before .real-at .ensures) .0) ((c .before .before .before .before .before .before .before .before .real-at2 .ensures) .0) (c .before .before .before .before .before .before .before .before .before .before .before .before .before .before .before .before .is-plain .ensures) (c .before .before .before .before .before .before .before .before .before .before .before .before .before .before .before .if1 .taken) _ _ (c .before .before .before .before .before .before .move-flat .ensures) (c .before .before .note-written .ensures)
 
-loop-again : tie.Need-loop-again Inv-loop μ-loop
-loop-again c = (rw ((c .before .before .before .before .before .before .write-byte .ensures), (c .before .before .before .before .before .before .before .before .before .read-byte .ensures), (c .before .next-of .ensures), (c .next-of2 .ensures)) ((c .before .before .before .before .before .before .before .before .before .before .before .before .before .loop .inv .0) ∙ move-turn _ _ _ _ (c .before .before .before .before .before .before .before .before .before .before .before .before .loop-test .taken)), (c .before .before .before .before .before .before .write-byte .kept .0) ∙ (c .before .before .before .before .before .before .before .before .before .before .before .before .before .loop .inv .1), (c .before .before .before .before .before .before .write-byte .kept .1 .0) ∙ (c .before .before .before .before .before .before .before .before .before .before .before .before .before .loop .inv .2))
+-- src/lib.rt:227:5
+move-each-requires : tie.Need-move-each-requires
+move-each-requires c κs = search needs
 
-same-length : tie.Need-same-length Inv-loop μ-loop
-same-length c = (c .before .loop .inv .1)
+-- src/lib.rt:215:1
+same-length-3 : tie.Need-same-length-3
+same-length-3 c = search needs
 
-same-length-2 : tie.Need-same-length-2 Inv-loop μ-loop
-same-length-2 c = (c .before .loop .inv .2)
+-- src/lib.rt:215:1
+same-length-4 : tie.Need-same-length-4
+same-length-4 c = search needs
 
-returns : tie.Need-returns Inv-loop μ-loop
-returns c = sym ((c .before .loop .inv .0) ∙ move-none _ (c .loop-test .left) _ _ _)
+-- src/lib.rt:215:1
+returns-2 : tie.Need-returns-2
+returns-2 c = search needs
 
 pub move-field-spec : {M : Type 1} → statement M
 move-field-spec =
     tie.close
     (tie.spec
-    Inv-loop
-    μ-loop
-    loop-holds
-    read-byte-requires
-    write-byte-requires
-    next-of-requires
-    next-of-requires-2
-    sub-left
-    loop-less
-    loop-again
+    is-plain-requires
+    is-plain-requires-2
+    real-at-requires
+    real-at-requires-2
+    move-flat-requires
+    note-written-requires
     same-length
     same-length-2
-    returns)
+    returns
+    move-each-requires
+    same-length-3
+    same-length-4
+    returns-2)

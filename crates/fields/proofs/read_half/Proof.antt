@@ -1,56 +1,45 @@
-use native.Mathlib.Omega.{arith}
-use Rattle.fields.proofs.Near.{near-half, near-inside}
+use Rattle.fields.proofs.Together.{plain-room, plain-read}
 use borrow.Author.Needs.{needs}
 use Rattle.fields.proofs.read_half.Statement.{statement}
 use Rattle.fields.proofs.read_half.Tie as tie
 use Rattle.fields.proofs.read_half.Reads as reads
 use Rattle.fields.proofs.read_half.Lts as lts
+use Rattle.fields.proofs.flat.half_of.Reads as half-of-reads
 use Rattle.fields.proofs.half_each.Reads as half-each-reads
-use Rattle.fields.proofs.half_in.Reads as half-in-reads
-use Rattle.fields.proofs.is_near.Reads as is-near-reads
-use Rattle.pages.proofs.look_up.Reads as look-up-reads
+use Rattle.pages.proofs.is_plain.Reads as is-plain-reads
+use Rattle.pages.proofs.real_at.Reads as real-at-reads
 
-is-near-requires : tie.Need-is-near-requires
-is-near-requires c κs = search needs
+-- src/lib.rt:161:8
+is-plain-requires : tie.Need-is-plain-requires
+is-plain-requires c κs = search needs
 
-look-up-requires : tie.Need-look-up-requires
-look-up-requires c κs = search needs
+-- src/lib.rt:162:35
+real-at-requires : tie.Need-real-at-requires
+real-at-requires c κs = search needs
 
-enum-known-found : tie.Need-enum-known-found
-enum-known-found c = search needs
+-- src/lib.rt:162:9
+half-of-requires : tie.Need-half-of-requires
+half-of-requires c κs = plain-room _ _ _ _ _ _ (c .before .before .is-plain .ensures) (c .before .if1 .taken) _ ((c .real-at .ensures) .0)
 
-enum-told : tie.Need-enum-told
-enum-told c = search needs
+-- src/lib.rt:162:9
+returns : tie.Need-returns
+returns c = plain-read _ _ _ _ _ (c .before .before .before .is-plain .ensures) (c .before .before .if1 .taken) _ _ ((c .before .real-at .ensures) .0) (c .half-of .ensures)
 
+-- src/lib.rt:164:5
 half-each-requires : tie.Need-half-each-requires
 half-each-requires c κs = search needs
 
-returns : tie.Need-returns
-returns c = search needs
-
-half-in-requires : tie.Need-half-in-requires
-half-in-requires c κs = near-inside _ _ _ _ (c .before .before .before .before .before .is-near .ensures) (c .before .before .before .before .if1 .taken) _ _ _ _ _ (c .before .before .before .look-up .ensures) ((c .before .found .given) .1) (omega arith)
-
+-- src/lib.rt:158:1
 returns-2 : tie.Need-returns-2
-returns-2 c = near-half _ _ _ _ _ _ _ (c .before .before .before .before .before .before .is-near .ensures) (c .before .before .before .before .before .if1 .taken) (c .before .before .before .before .look-up .ensures) ((c .before .before .found .given) .1) (c .half-in .ensures)
-
-half-each-requires-2 : tie.Need-half-each-requires-2
-half-each-requires-2 c κs = search needs
-
-returns-3 : tie.Need-returns-3
-returns-3 c = search needs
+returns-2 c = search needs
 
 pub read-half-spec : {M : Type 1} → statement M
 read-half-spec =
     tie.close
     (tie.spec
-    is-near-requires
-    look-up-requires
-    enum-known-found
-    enum-told
-    half-each-requires
+    is-plain-requires
+    real-at-requires
+    half-of-requires
     returns
-    half-in-requires
-    returns-2
-    half-each-requires-2
-    returns-3)
+    half-each-requires
+    returns-2)

@@ -1,56 +1,45 @@
-use native.Mathlib.Omega.{arith}
-use Rattle.fields.proofs.Near.{near-word, near-inside}
+use Rattle.fields.proofs.Together.{plain-room, plain-read}
 use borrow.Author.Needs.{needs}
 use Rattle.fields.proofs.read_word.Statement.{statement}
 use Rattle.fields.proofs.read_word.Tie as tie
 use Rattle.fields.proofs.read_word.Reads as reads
 use Rattle.fields.proofs.read_word.Lts as lts
-use Rattle.fields.proofs.is_near.Reads as is-near-reads
+use Rattle.fields.proofs.flat.word_of.Reads as word-of-reads
 use Rattle.fields.proofs.word_each.Reads as word-each-reads
-use Rattle.fields.proofs.word_in.Reads as word-in-reads
-use Rattle.pages.proofs.look_up.Reads as look-up-reads
+use Rattle.pages.proofs.is_plain.Reads as is-plain-reads
+use Rattle.pages.proofs.real_at.Reads as real-at-reads
 
-is-near-requires : tie.Need-is-near-requires
-is-near-requires c κs = search needs
+-- src/lib.rt:178:8
+is-plain-requires : tie.Need-is-plain-requires
+is-plain-requires c κs = search needs
 
-look-up-requires : tie.Need-look-up-requires
-look-up-requires c κs = search needs
+-- src/lib.rt:179:35
+real-at-requires : tie.Need-real-at-requires
+real-at-requires c κs = search needs
 
-enum-known-found : tie.Need-enum-known-found
-enum-known-found c = search needs
+-- src/lib.rt:179:9
+word-of-requires : tie.Need-word-of-requires
+word-of-requires c κs = plain-room _ _ _ _ _ _ (c .before .before .is-plain .ensures) (c .before .if1 .taken) _ ((c .real-at .ensures) .0)
 
-enum-told : tie.Need-enum-told
-enum-told c = search needs
+-- src/lib.rt:179:9
+returns : tie.Need-returns
+returns c = plain-read _ _ _ _ _ (c .before .before .before .is-plain .ensures) (c .before .before .if1 .taken) _ _ ((c .before .real-at .ensures) .0) (c .word-of .ensures)
 
+-- src/lib.rt:181:5
 word-each-requires : tie.Need-word-each-requires
 word-each-requires c κs = search needs
 
-returns : tie.Need-returns
-returns c = search needs
-
-word-in-requires : tie.Need-word-in-requires
-word-in-requires c κs = near-inside _ _ _ _ (c .before .before .before .before .before .is-near .ensures) (c .before .before .before .before .if1 .taken) _ _ _ _ _ (c .before .before .before .look-up .ensures) ((c .before .found .given) .1) (omega arith)
-
+-- src/lib.rt:175:1
 returns-2 : tie.Need-returns-2
-returns-2 c = near-word _ _ _ _ _ _ _ (c .before .before .before .before .before .before .is-near .ensures) (c .before .before .before .before .before .if1 .taken) (c .before .before .before .before .look-up .ensures) ((c .before .before .found .given) .1) (c .word-in .ensures)
-
-word-each-requires-2 : tie.Need-word-each-requires-2
-word-each-requires-2 c κs = search needs
-
-returns-3 : tie.Need-returns-3
-returns-3 c = search needs
+returns-2 c = search needs
 
 pub read-word-spec : {M : Type 1} → statement M
 read-word-spec =
     tie.close
     (tie.spec
-    is-near-requires
-    look-up-requires
-    enum-known-found
-    enum-told
-    word-each-requires
+    is-plain-requires
+    real-at-requires
+    word-of-requires
     returns
-    word-in-requires
-    returns-2
-    word-each-requires-2
-    returns-3)
+    word-each-requires
+    returns-2)

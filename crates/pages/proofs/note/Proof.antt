@@ -1,49 +1,59 @@
-use Prim.Native.Nat.{_/_}
-use native.Mathlib.Omega.{arith}
-use mathlib.Core.Path.{refl, sym}
+use Rattle.pages.proofs.Marks.{accessed-new, accessed-old}
+use Rattle.pages.specs.Framed.{accessedAt}
+use Rattle.pages.specs.Word.{wordOf, pageOf}
+use lib.ListN.{set}
 use lib.Seq.{set-out}
-use Rattle.pages.specs.Word.{accessed, written, wordOf, pageOf}
-use Rattle.pages.specs.Framed.{accessedAt, writtenAt}
+use mathlib.Core.Path.{refl, sym, ap}
+use native.Mathlib.Omega.{arith}
+use Prim.Native.Nat.{_/_}
 use borrow.Author.Needs.{needs}
 use Rattle.pages.proofs.note.Statement.{statement}
 use Rattle.pages.proofs.note.Tie as tie
 use Rattle.pages.proofs.note.Reads as reads
 use Rattle.pages.proofs.note.Lts as lts
 
+-- src/lib.rt:171:16
 cast-page : tie.Need-cast-page
 cast-page c = search needs
 
+-- src/lib.rt:173:17
 mul-w : tie.Need-mul-w
 mul-w c = search needs
 
+-- src/lib.rt:173:17
 slice-read-w : tie.Need-slice-read-w
 slice-read-w c = search needs
 
-mul-map : tie.Need-mul-map
-mul-map c = omega (arith, (c .slice-known .given) ((c .before .before .args .a) / 4096))
-
+-- src/lib.rt:175:25
 add-map : tie.Need-add-map
-add-map c = omega (arith, (c .slice-known .given) ((c .before .before .args .a) / 4096))
+add-map c = omega (arith, ((c .before .slice-known .given)) ((c .before .before .before .args .a) / 4096), (c .if2 .taken))
 
-add-map-2 : tie.Need-add-map-2
-add-map-2 c = omega (arith, (c .slice-known .given) ((c .before .before .args .a) / 4096))
+-- src/lib.rt:175:13
+mul-map : tie.Need-mul-map
+mul-map c = search needs
 
-mul-map-2 : tie.Need-mul-map-2
-mul-map-2 c = search needs
-
+-- src/lib.rt:175:13
 slice-write-map : tie.Need-slice-write-map
 slice-write-map c = search needs
 
+-- src/lib.rt:168:1
 same-length : tie.Need-same-length
 same-length c = search needs
 
+-- src/lib.rt:168:1
 returns : tie.Need-returns
-unfolding accessedAt writtenAt accessed written wordOf pageOf
-returns c = refl
+unfolding accessedAt wordOf pageOf
+returns c = ap (set ((c .before .before .before .args .map .now)) ((c .before .before .before .args .a) / 4096)) (accessed-new _ (c .if2 .taken))
 
+-- src/lib.rt:168:1
 returns-2 : tie.Need-returns-2
-unfolding accessedAt writtenAt accessed written wordOf pageOf
-returns-2 c = sym (set-out _ _ _ (c .if1 .left))
+unfolding accessedAt wordOf pageOf
+returns-2 c = accessed-old _ _ _ refl (c .if2 .left)
+
+-- src/lib.rt:168:1
+returns-3 : tie.Need-returns-3
+unfolding accessedAt wordOf pageOf
+returns-3 c = sym (set-out _ _ _ (c .if1 .left))
 
 pub note-spec : {M : Type 1} → statement M
 note-spec =
@@ -52,11 +62,10 @@ note-spec =
     cast-page
     mul-w
     slice-read-w
-    mul-map
     add-map
-    add-map-2
-    mul-map-2
+    mul-map
     slice-write-map
     same-length
     returns
-    returns-2)
+    returns-2
+    returns-3)
