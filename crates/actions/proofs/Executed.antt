@@ -1,5 +1,5 @@
 -- What an executor answers is what its program comes to: a law for each way out, in the terms that the code has in hand there.
-use Prim.Native.Nat.{ℕ, zero, suc, _+_, _<_, _%_}
+use Prim.Native.Nat.{ℕ, zero, suc, _+_, _<_, _≤_, _%_}
 use native.Mathlib.Omega.{arith}
 use mathlib.Core.Path.{_≡_, refl, sym, _∙_, ap}
 use mathlib.Core.List.{List, [], _∷_}
@@ -22,8 +22,10 @@ use Rattle.actions.specs.Multiple.{filled, spilled}
 use Rattle.machine.specs.Rx.{widthOf, taken}
 use Rattle.words.specs.declared.Res.{Res}
 use Rattle.code.specs.declared.Operand.{Operand}
+use Rattle.code.specs.declared.Operand.the-variants.{ByteInserted}
+use Rattle.code.specs.declared.Width.{Width}
 use Rattle.fields.specs.declared.Field.{Field}
-use Rattle.fields.specs.Direct.{lookFields, lookOne, noteField, readField, writeField, moveField, compareField}
+use Rattle.fields.specs.Direct.{lookFields, lookOne, noteField, readField, writeField, moveField, compareField, flat}
 use Rattle.fields.proofs.Bridge.{afterLook, gets-is, puts-is, moves-is, compares-is}
 use Rattle.actions.specs.declared.Now.{Now}
 use Rattle.actions.specs.declared.Out.{Out}
@@ -195,3 +197,17 @@ compared regs next kept s a b n v k ev ek =
     compares-is a b n k kept s
     ∙ ap (λ (x : ℕ). interp framed (k x) kept s) (sym ev)
     ∙ ap (λ (p : Prog Cpu). interp framed p kept s) (sym ek)
+
+-- an operand that was read where it was found
+pub taken-at : (op : Operand) (w : Width) (x code i a : ℕ) (mem : List ℕ) (s : Framed) (res : Res) → w ≡ widthOf op
+    → res ≡ taken op x (flat mem i (bytesOf (widthOf op)) 0) code → flat mem i (bytesOf w) 0 ≡ readField s a (bytesOf w) 0
+    → res ≡ taken op x (readField s a (bytesOf (widthOf op)) 0) code
+taken-at op w x code i a mem s res ew er k =
+    let j : flat mem i (bytesOf (widthOf op)) 0 ≡ readField s a (bytesOf (widthOf op)) 0 = rw ew at k in
+    er ∙ ap (λ (v : ℕ). taken op x v code) j
+
+pub take-room : (op o : Operand) → op ≡ o → (r n : ℕ) → r + bytesOf (widthOf op) ≤ n → r + bytesOf (widthOf o) ≤ n
+take-room op o e r n h = rw e at h
+
+pub take-byte-room : (op : Operand) → op ≡ ByteInserted → (r n : ℕ) → r + bytesOf (widthOf op) ≤ n → r < n
+take-byte-room op e r n h = let k : r + 1 ≤ n = rw e at h in omega arith

@@ -8,7 +8,7 @@ use mathlib.Core.Bool.{Bool, true, false, not}
 use mathlib.Core.List.{List}
 use borrow.Author.Tests.{leb-false, le-leb, eqb-true, eq-eqb, ne-eqb}
 use lib.Dec.{eqb, leb, ltb}
-use lib.ListN.{length}
+use lib.ListN.{length, getD, set}
 use Rattle.words.specs.Pick.{pick, both}
 use Rattle.pages.specs.declared.Access.{Access}
 use Rattle.pages.specs.declared.Access.the-variants.{Fetch, Load, Store}
@@ -19,7 +19,8 @@ use Rattle.pages.specs.declared.Look.the-variants.{At, Refused}
 use Rattle.pages.specs.Word.{pageOf, dispOf, next, base, real, wordOf, bitU, bitS, bitE, bitM, bitsX, accessed}
 use Rattle.pages.specs.Tests.{Verdict, fine, bad, tests, table, isStore}
 use Rattle.pages.specs.Look.{lookOf, within}
-use Rattle.pages.specs.Framed.{Framed, framedOf, accessedAt, writtenAt}
+use Rattle.pages.specs.Framed.{Framed, framedOf, accessedAt, writtenAt, readByte, writeByte, readAt, writeAt}
+use Rattle.pages.proofs.LookLaws.{found-less}
 use Rattle.pages.specs.Plain.{realOf, plain}
 use Rattle.pages.proofs.Marks.{accessed-quiet, look-quiet}
 use Rattle.code.specs.declared.Width.{Width}
@@ -222,3 +223,50 @@ module _ (mem map : List ℕ) (acc : Access) (a n : ℕ) (b : Bool) (eb : b ≡ 
 
   pub plain-half-read : flat mem (realOf map a + d) 2 0 ≡ readField (framedOf mem map) (a + d) 2 0
   plain-half-read = lies-read mem map (a + d) 2 (realOf map a + d) half-loads 0
+
+-- one byte
+pub one-byte : (map : List ℕ) (size : ℕ) (acc : Access) (a : ℕ) → lookOne map size acc a 1 ≡ lookOf map size acc a
+unfolding lookOne lookField
+one-byte map size acc a = go (lookOf map size acc a)
+  where
+    go : (l : Look) → orElse l l ≡ l
+    go (At r) = refl
+    go (Refused c p) = refl
+
+module _ (mem map : List ℕ) (acc : Access) (a r : ℕ) (found : Look) (e : found ≡ lookOne map (length mem) acc a 1) (f : found ≡ At r) where
+  pub byte-look : lookOf map (length mem) acc a ≡ At r
+  byte-look = sym (one-byte map (length mem) acc a) ∙ sym e ∙ f
+
+  pub byte-inside : r < length mem
+  byte-inside = found-less map (length mem) acc a (At r) r (sym byte-look) refl
+
+  pub byte-read : (map′ : List ℕ) → map′ ≡ accessedAt map a → getD mem r 0 ≡ readByte (framedOf mem map′) a
+  unfolding readByte accessedAt
+  byte-read map′ k =
+      ap (readAt mem)
+      (sym
+      (ap (λ (m : List ℕ). lookOf m (length mem) Load a) k
+      ∙ look-quiet accessed accessed-quiet map (pageOf a) (length mem) Load a
+      ∙ any-load map (length mem) acc a r byte-look))
+
+pub byte-write : (mem map : List ℕ) (a r : ℕ) (found : Look) → found ≡ lookOne map (length mem) Store a 1 → found ≡ At r
+    → (map′ map″ mem′ : List ℕ) (v : ℕ) → map′ ≡ accessedAt map a → mem′ ≡ set mem r v → map″ ≡ writtenAt map′ a
+    → framedOf mem′ map″ ≡ writeByte (framedOf mem map′) a v
+unfolding writeByte accessedAt
+byte-write mem map a r found e f map′ map″ mem′ v k em en =
+    ap (λ (m : List ℕ). framedOf m map″) em
+    ∙ ap (framedOf (set mem r v)) en
+    ∙ ap (writeAt (framedOf mem map′) a v)
+    (sym
+    (ap (λ (m : List ℕ). lookOf m (length mem) Store a) k
+    ∙ look-quiet accessed accessed-quiet map (pageOf a) (length mem) Store a
+    ∙ byte-look mem map Store a r found e f))
+
+-- what an executor has in hand: the width as a number of bytes
+pub width-some : (w : Width) → 0 < bytesOf w
+width-some Word = omega arith
+width-some Half = omega arith
+width-some Byte = omega arith
+
+pub len-is : (map : List ℕ) (size : ℕ) (acc : Access) (a n m : ℕ) (found : Look) → found ≡ lookOne map size acc a n → n ≡ m → found ≡ lookOne map size acc a m
+len-is map size acc a n m found e k = e ∙ ap (lookOne map size acc a) k

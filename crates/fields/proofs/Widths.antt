@@ -75,29 +75,25 @@ module _ (mem : List ℕ) (r : ℕ) where
       let q : r + 2 + 1 ≡ r + 3 = omega arith in
       rw (p, q) (omega arith)
 
-  pub put-byte-is : (v : ℕ) → v < 256 → set mem r v ≡ flatPut mem r 1 v
-  unfolding flatPut
-  put-byte-is v h = ap (set mem r) (omega arith)
-
-  pub put-half-is : (v : ℕ) (m n : List ℕ) → v < 65536 → m ≡ flatPut mem r 1 (v / 256) → n ≡ flatPut m (r + 1) 1 (v % 256) → n ≡ flatPut mem r 2 v
+  pub put-half-is : (v : ℕ) (m n : List ℕ) → v < 65536 → m ≡ set mem r (v / 256) → n ≡ set m (r + 1) (v % 256) → n ≡ flatPut mem r 2 v
   unfolding flatPut
   put-half-is v m n h em en =
       en
-      ∙ ap (λ (x : List ℕ). set x (r + 1) (v % 256 / 256 ^ 0 % 256)) em
-      ∙ ap (λ (x : ℕ). set (set mem r x) (r + 1) (v % 256 / 256 ^ 0 % 256)) (omega arith)
+      ∙ ap (λ (x : List ℕ). set x (r + 1) (v % 256)) em
+      ∙ ap (λ (x : ℕ). set (set mem r x) (r + 1) (v % 256)) (omega arith)
       ∙ ap (set (set mem r (v / 256 ^ 1 % 256)) (r + 1)) (omega arith)
 
-  pub put-word-is : (v : ℕ) (m n o p : List ℕ) → m ≡ flatPut mem r 1 (v / 16777216 % 256) → n ≡ flatPut m (r + 1) 1 (v / 65536 % 256)
-      → o ≡ flatPut n (r + 2) 1 (v / 256 % 256) → p ≡ flatPut o (r + 3) 1 (v % 256) → p ≡ flatPut mem r 4 v
+  pub put-word-is : (v : ℕ) (m n o p : List ℕ) → m ≡ set mem r (v / 16777216 % 256) → n ≡ set m (r + 1) (v / 65536 % 256)
+      → o ≡ set n (r + 2) (v / 256 % 256) → p ≡ set o (r + 3) (v % 256) → p ≡ flatPut mem r 4 v
   unfolding flatPut
   put-word-is v m n o p em en eo ep =
       let i : r + 1 + 1 ≡ r + 2 = omega arith in
       let j : r + 2 + 1 ≡ r + 3 = omega arith in
       ep
       ∙ rw (eo, en, em, i, j)
-      (ap (λ (x : ℕ). set (set (set (set mem r x) (r + 1) (v / 65536 % 256 / 256 ^ 0 % 256)) (r + 2) (v / 256 % 256 / 256 ^ 0 % 256)) (r + 3) (v % 256 / 256 ^ 0 % 256)) (omega arith)
-      ∙ ap (λ (x : ℕ). set (set (set (set mem r (v / 256 ^ 3 % 256)) (r + 1) x) (r + 2) (v / 256 % 256 / 256 ^ 0 % 256)) (r + 3) (v % 256 / 256 ^ 0 % 256)) (omega arith)
-      ∙ ap (λ (x : ℕ). set (set (set (set mem r (v / 256 ^ 3 % 256)) (r + 1) (v / 256 ^ 2 % 256)) (r + 2) x) (r + 3) (v % 256 / 256 ^ 0 % 256)) (omega arith)
+      (ap (λ (x : ℕ). set (set (set (set mem r x) (r + 1) (v / 65536 % 256)) (r + 2) (v / 256 % 256)) (r + 3) (v % 256)) (omega arith)
+      ∙ ap (λ (x : ℕ). set (set (set (set mem r (v / 256 ^ 3 % 256)) (r + 1) x) (r + 2) (v / 256 % 256)) (r + 3) (v % 256)) (omega arith)
+      ∙ ap (λ (x : ℕ). set (set (set (set mem r (v / 256 ^ 3 % 256)) (r + 1) (v / 256 ^ 2 % 256)) (r + 2) x) (r + 3) (v % 256)) (omega arith)
       ∙ ap (set (set (set (set mem r (v / 256 ^ 3 % 256)) (r + 1) (v / 256 ^ 2 % 256)) (r + 2) (v / 256 ^ 1 % 256)) (r + 3)) (omega arith))
 
   -- only the low bytes of v are stored
@@ -107,7 +103,7 @@ module _ (mem : List ℕ) (r : ℕ) where
       ap (λ (x : ℕ). set (set mem r x) (r + 1) (v % 65536 / 256 ^ 0 % 256)) (omega arith)
       ∙ ap (set (set mem r (v / 256 ^ 1 % 256)) (r + 1)) (omega arith)
 
-  pub put-low-byte : (v : ℕ) → flatPut mem r 1 (v % 256) ≡ flatPut mem r 1 v
+  pub put-low-byte : (v : ℕ) → set mem r (v % 256) ≡ flatPut mem r 1 v
   unfolding flatPut
   put-low-byte v = ap (set mem r) (omega arith)
 

@@ -2,7 +2,7 @@
 use code::Width;
 ghost use mathlib.Core.Path.{_≡_};
 ghost use Prim.Native.Nat.{_<_, _≤_, _+_};
-ghost use lib.ListN.{length};
+ghost use lib.ListN.{length, getD, set};
 ghost use Rattle.machine.specs.Fields.{bytesOf};
 ghost use Rattle.fields.specs.Direct.{flat, flatPut};
 
@@ -13,8 +13,8 @@ fn wide(b: u8) -> u32
 }
 
 pub fn byte_of(mem: &[u8], r: usize) -> u8
-    requires { ⌜ r + 1 ≤ length (now mem) ⌝ }
-    ensures { λ v. ⌜ v ≡ flat (now (mem .entry)) r 1 0 ⌝ }
+    requires { ⌜ r < length (now mem) ⌝ }
+    ensures { λ v. ⌜ v ≡ getD (now (mem .entry)) r 0 ⌝ }
 {
     mem[r]
 }
@@ -36,8 +36,8 @@ pub fn word_of(mem: &[u8], r: usize) -> u32
 }
 
 pub fn put_byte(mem: &mut [u8], r: usize, v: u8)
-    requires { ⌜ r + 1 ≤ length (now mem) ⌝ }
-    ensures { λ _. ⌜ now (mem .exit) ≡ flatPut (now (mem .entry)) r 1 v ⌝ }
+    requires { ⌜ r < length (now mem) ⌝ }
+    ensures { λ _. ⌜ now (mem .exit) ≡ set (now (mem .entry)) r v ⌝ }
 {
     mem[r] = v;
 }

@@ -1,4 +1,4 @@
-use Rattle.fields.proofs.Widths.{flat-byte}
+use mathlib.Core.Path.{refl}
 use borrow.Author.Needs.{needs}
 use Rattle.fields.proofs.flat.byte_of.Statement.{statement}
 use Rattle.fields.proofs.flat.byte_of.Tie as tie
@@ -11,7 +11,7 @@ shared-slice-read-result c = search needs
 
 -- src/flat.rt:15:1
 returns : tie.Need-returns
-returns c = flat-byte _ _
+returns c = refl
 
 pub byte-of-spec : {M : Type 1} → statement M
 byte-of-spec = tie.close (tie.spec shared-slice-read-result returns)

@@ -1,5 +1,4 @@
-use native.Mathlib.Omega.{arith}
-use Rattle.fields.proofs.Widths.{put-byte-is}
+use mathlib.Core.Path.{refl}
 use borrow.Author.Needs.{needs}
 use Rattle.fields.proofs.flat.put_byte.Statement.{statement}
 use Rattle.fields.proofs.flat.put_byte.Tie as tie
@@ -16,7 +15,7 @@ same-length c = search needs
 
 -- src/flat.rt:38:1
 returns : tie.Need-returns
-returns c = put-byte-is _ _ _ (omega arith)
+returns c = refl
 
 pub put-byte-spec : {M : Type 1} → statement M
 put-byte-spec = tie.close (tie.spec slice-write-mem same-length returns)

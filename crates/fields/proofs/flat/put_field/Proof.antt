@@ -1,3 +1,4 @@
+use native.Mathlib.Omega.{arith}
 use Rattle.fields.proofs.Widths.{room-of, put-of, put-low-half, put-low-byte}
 use mathlib.Core.Path.{_∙_}
 use borrow.Author.Needs.{needs}
@@ -39,7 +40,7 @@ cast-put-byte c = search needs
 
 -- src/flat.rt:71:24
 put-byte-requires : tie.Need-put-byte-requires
-put-byte-requires c κs = room-of _ _ ((c .before .enum-told3 .given) .1) _ _ (c .before .before .before .before .pre)
+put-byte-requires c κs = let h = room-of _ _ ((c .before .enum-told3 .given) .1) _ _ (c .before .before .before .before .pre) in omega (arith, h)
 
 -- src/flat.rt:64:1
 same-length : tie.Need-same-length
