@@ -1,4 +1,6 @@
 mod Halfwords
+mod Texts
+mod Marked
 mod Runs
 mod Entries
 mod Only

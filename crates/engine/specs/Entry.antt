@@ -1,35 +1,105 @@
--- For the engine's inner functions: a fetched halfword, the marks that a completed instruction sets, and the answers of a step and a run.
-use Prim.Native.Nat.{ℕ, _+_}
+-- For the engine's inner functions: an instruction's halfwords, what the action does with them, the marks that it sets where it completes,
+-- and the answers of a step and a run.
+use Prim.Native.Nat.{ℕ, _+_, _%_}
 use mathlib.Core.List.{List}
+use mathlib.Core.Bool.{Bool}
+use lib.Dec.{ltb}
+use lib.ListN.{length}
+use Rattle.words.specs.Pick.{pick}
+use Rattle.pages.specs.declared.Access.the-variants.{Fetch}
 use Rattle.pages.specs.declared.Look.{Look}
 use Rattle.pages.specs.declared.Look.the-variants.{At, Refused}
+use Rattle.pages.specs.Tests.{numberOf}
 use Rattle.pages.specs.Framed.{Framed}
-use Rattle.fields.specs.Direct.{noteField}
+use Rattle.code.specs.declared.Action.the-variants.{Rr, Rx, Rs, Si, Ss}
+use Rattle.code.specs.declared.Found.{Found}
+use Rattle.code.specs.declared.Found.the-variants.{Known, Unknown}
+use Rattle.code.specs.Table.{actionOf}
+use Rattle.code.specs.Formats.{opOf, rrOf, rxOf, rsOf, siOf, ssOf}
+use Rattle.fields.specs.Direct.{lookOne, noteField, readField}
 use Rattle.machine.specs.declared.Reply.{Reply}
+use Rattle.machine.specs.Prog.{Prog, fail}
 use Rattle.machine.specs.Run.{Result}
 use Rattle.machine.specs.Cpu.{Cpu}
+use Rattle.machine.specs.Rr.{rr}
+use Rattle.machine.specs.Rx.{rx}
+use Rattle.machine.specs.Rs.{rs}
+use Rattle.machine.specs.Si.{si}
+use Rattle.machine.specs.Ss.{ss}
 use Rattle.actions.specs.declared.Now.{Now}
 use Rattle.actions.specs.declared.Out.{Out}
 use Rattle.actions.specs.declared.Out.the-variants.{Done, Stop}
-use Rattle.actions.specs.Told.{cpuOf, refusalOf}
-use Rattle.engine.specs.declared.Half.{Half}
-use Rattle.engine.specs.declared.Half.the-variants.{Got, Missing}
+use Rattle.actions.specs.Told.{cpuOf}
+use Rattle.engine.specs.declared.Text.{Text}
+use Rattle.engine.specs.declared.Text.the-variants as T
 use Rattle.engine.specs.declared.Ran.{Ran}
 
--- a halfword, or the look-up's refusal
-abbrev pub halfOf : Look → ℕ → Half
-halfOf (At r) h = Got h
-halfOf (Refused c a) h = Missing (Refused c a)
+-- the address n bytes past pc
+abbrev pub past : ℕ → ℕ → ℕ
+past pc n = (pc + n) % 16777216
 
--- the refusal, handed on (asked of a missing halfword only)
-abbrev pub missingOf : Half → Out
-missingOf (Missing l) = refusalOf l
-missingOf (Got h) = Stop 0 0
+-- how many halfwords are fetched: of an operation that is not known, the first only
+abbrev pub halves : Found → ℕ
+halves Unknown = 1
+halves (Known (Rr x)) = 1
+halves (Known (Rx x)) = 2
+halves (Known (Rs x)) = 2
+halves (Known (Si x)) = 2
+halves (Known (Ss x)) = 3
 
--- the map after an instruction whose halfword at a was fetched
-abbrev pub markedBy : Out → List ℕ → ℕ → List ℕ
-markedBy (Done n) map a = noteField map a 2
-markedBy (Stop k p) map a = map
+abbrev pub halvesOf : ℕ → ℕ
+halvesOf h1 = halves (actionOf (opOf h1))
+
+-- a halfword's look-up that is wanted and refuses, or the text as it is
+abbrev pub orStop : Look → Text → Text
+orStop (At r) t = t
+orStop (Refused c a) t = T.Stop (numberOf c) a
+
+abbrev pub unless : Bool → Look → Text → Text
+unless b l t = pick b (orStop l t) t
+
+abbrev pub lookHalf : Framed → ℕ → Look
+lookHalf s a = lookOne (s .map) (length (s .mem)) Fetch a 2
+
+-- the second and the third halfword of n, and then the first: the lowest refusal comes first
+abbrev pub furtherOf : Framed → ℕ → ℕ → Text → Text
+furtherOf s pc n t =
+    unless (ltb 1 n) (lookHalf s (past pc 2)) (unless (ltb 2 n) (lookHalf s (past pc 4)) t)
+
+abbrev pub wholeOf : Framed → ℕ → Text
+wholeOf s pc = T.Whole (readField s pc 2 0) (readField s (past pc 2) 2 0) (readField s (past pc 4) 2 0)
+
+-- the halfwords from pc on; those that the operation lacks are read all the same, and nobody looks at them
+unfoldable pub textOf : Framed → ℕ → Text
+textOf s pc =
+    orStop (lookHalf s pc) (furtherOf s pc (halvesOf (readField s pc 2 0)) (wholeOf s pc))
+
+-- the action on halfwords that are in hand
+abbrev pub actWhole : Found → ℕ → ℕ → ℕ → Cpu → Prog Cpu
+actWhole Unknown h1 h2 h3 c = fail 5 (c .pc)
+actWhole (Known (Rr x)) h1 h2 h3 c = rr x (rrOf h1) c
+actWhole (Known (Rx x)) h1 h2 h3 c = rx x (rxOf h1 h2) c
+actWhole (Known (Rs x)) h1 h2 h3 c = rs x (rsOf h1 h2) c
+actWhole (Known (Si x)) h1 h2 h3 c = si x (siOf h1 h2) c
+actWhole (Known (Ss x)) h1 h2 h3 c = ss x (ssOf h1 h2 h3) c
+
+unfoldable pub whole : ℕ → ℕ → ℕ → Cpu → Prog Cpu
+whole h1 h2 h3 c = actWhole (actionOf (opOf h1)) h1 h2 h3 c
+
+-- G on the page of each byte of a halfword that was fetched, and of each of n halfwords from pc on
+abbrev pub markHalf : Bool → List ℕ → ℕ → List ℕ
+markHalf b map a = pick b (noteField map a 2) map
+
+abbrev pub markFurther : ℕ → List ℕ → ℕ → List ℕ
+markFurther n map pc = markHalf (ltb 1 n) (markHalf (ltb 2 n) map (past pc 4)) (past pc 2)
+
+unfoldable pub markHalves : ℕ → List ℕ → ℕ → List ℕ
+markHalves n map pc = noteField (markFurther n map pc) pc 2
+
+-- the map after an instruction with this first halfword: a refused one sets no mark
+abbrev pub markedText : Out → List ℕ → ℕ → ℕ → List ℕ
+markedText (Done n) map pc h1 = markHalves (halvesOf h1) map pc
+markedText (Stop k p) map pc h1 = map
 
 -- a run's answer and what the lists hold, as the definitions' result
 abbrev pub ranAs : Ran → List ℕ → Framed → Result Cpu Framed

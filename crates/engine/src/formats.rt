@@ -1,138 +1,134 @@
-// The halfwords of an instruction after the first, by format, and then its action.
-use crate::Half;
+// An instruction's halfwords: read first, all of them; then its action; then the marks of their pages.
+use crate::Text;
 use actions::Now;
 use actions::Out;
 use code::Action;
-use code::RsAction;
-use code::RxAction;
-use code::SiAction;
-use code::SsAction;
+use code::Found;
 use pages::Access;
 use pages::Look;
 ghost use mathlib.Core.Path.{_≡_};
-ghost use lib.ListN.{length};
-ghost use Rattle.pages.specs.declared.Access.the-variants.{Fetch};
+ghost use Prim.Native.Nat.{_<_};
 ghost use Rattle.pages.specs.Framed.{framedOf};
-ghost use Rattle.fields.specs.Direct.{lookOne, readField};
-ghost use Rattle.code.specs.Formats.{ssOf};
-ghost use Rattle.machine.specs.Fields.{halfword};
-ghost use Rattle.machine.specs.Cpu.{ahead};
-ghost use Rattle.machine.specs.Ss.{ss};
-ghost use Rattle.machine.specs.Step.{act};
-ghost use Rattle.actions.specs.Told.{told, doing, refusalOf};
-ghost use Rattle.engine.specs.Entry.{halfOf, missingOf, markedBy};
+ghost use Rattle.actions.specs.Told.{told, doing};
+ghost use Rattle.engine.specs.Entry.{past, halvesOf, orStop, unless, lookHalf, textOf, whole, markHalf, markHalves, markedText};
 
-// The halfword at an address.
-pub fn fetch(mem: &[u8], map: &[u16], at: u32) -> Half
-    ensures { λ r. ⌜ r ≡ halfOf (lookOne (now (map .entry)) (length (now (mem .entry))) Fetch at 2) (readField (framedOf (now (mem .entry)) (now (map .entry))) at 2 0) ⌝ }
+// The address so many bytes past the counter.
+fn past_of(pc: u32, n: u32) -> u32
+    ensures { λ r. ⌜ r ≡ past pc n ⌝ }
 {
-    let found = fields::look_one(map, mem.len(), Access::Fetch, at, 2);
-    let Look::At(_) = found else {
-        return Half::Missing(found);
-    };
-    Half::Got(fields::read_half(mem, map, at))
+    ((pc as u64 + n as u64) % 16777216) as u32
 }
 
-// The refusal of a halfword, handed on.
-pub fn missing(half: Half) -> Out
-    ensures { λ r. ⌜ r ≡ missingOf half ⌝ }
+// How many halfwords are fetched, by the first.
+fn halves_of(h1: u16) -> u32
+    ensures { λ r. ⌜ r ≡ halvesOf h1 ⌝ }
 {
-    match half {
-        Half::Missing(look) => actions::refusal(look),
-        Half::Got(_) => Out::Stop(0, 0),
+    let found = code::action_of((h1 / 256) as u8);
+    let Found::Known(x) = found else {
+        return 1;
+    };
+    match x {
+        Action::Rr(_) => 1,
+        Action::Rx(_) => 2,
+        Action::Rs(_) => 2,
+        Action::Si(_) => 2,
+        Action::Ss(_) => 3,
     }
 }
 
-// G set on the page of the halfword at `at`, where the instruction completed.
-pub fn mark(map: &mut [u16], at: u32, out: Out)
-    ensures { λ _. ⌜ now (map .exit) ≡ markedBy out (now (map .entry)) at ⌝ }
+// A look-up's refusal, in place of the text.
+fn stop_of(look: Look, text: Text) -> Text
+    ensures { λ r. ⌜ r ≡ orStop look text ⌝ }
 {
-    if let Out::Done(_) = out {
+    let Look::At(_) = look else {
+        let out = actions::refusal(look);
+        let Out::Stop(number, place) = out else {
+            return text;
+        };
+        return Text::Stop(number, place);
+    };
+    text
+}
+
+// The text, unless its halfword at `at` is wanted and the look-up refuses it.
+fn checked(mem: &[u8], map: &[u16], at: u32, wanted: bool, text: Text) -> Text
+    ensures { λ r. ⌜ r ≡ unless wanted (lookHalf (framedOf (now (mem .entry)) (now (map .entry))) at) text ⌝ }
+{
+    if wanted {
+        let look = fields::look_one(map, mem.len(), Access::Fetch, at, 2);
+        return stop_of(look, text);
+    }
+    text
+}
+
+// The halfwords from the counter on, each looked up by itself: the last first, so that the lowest refusal is the one that stays.
+pub fn text(mem: &[u8], map: &[u16], pc: u32) -> Text
+    ensures { λ r. ⌜ r ≡ textOf (framedOf (now (mem .entry)) (now (map .entry))) pc ⌝ }
+{
+    let second = past_of(pc, 2);
+    let third = past_of(pc, 4);
+    let h1 = fields::read_half(mem, map, pc);
+    let h2 = fields::read_half(mem, map, second);
+    let h3 = fields::read_half(mem, map, third);
+    let n = halves_of(h1);
+    let whole = Text::Whole(h1, h2, h3);
+    let from_third = checked(mem, map, third, 2 < n, whole);
+    let from_second = checked(mem, map, second, 1 < n, from_third);
+    checked(mem, map, pc, true, from_second)
+}
+
+// The action of an instruction whose halfwords are in hand.
+pub fn finish(
+    regs: &mut [u32],
+    mem: &mut [u8],
+    map: &mut [u16],
+    c: Now,
+    h1: u16,
+    h2: u16,
+    h3: u16,
+) -> Out
+    ensures { λ r. ⌜ told r (now (regs .exit)) c (framedOf (now (mem .exit)) (now (map .exit))) ≡ doing (whole h1 h2 h3) (now (regs .entry)) c (framedOf (now (mem .entry)) (now (map .entry))) ⌝ }
+{
+    let found = code::action_of((h1 / 256) as u8);
+    let Found::Known(x) = found else {
+        return Out::Stop(5, c.pc);
+    };
+    match x {
+        Action::Rr(y) => Out::Done(actions::rr::execute(regs, c, y, code::split_rr(h1))),
+        Action::Rx(y) => actions::rx::execute(regs, mem, map, c, y, code::split_rx(h1, h2)),
+        Action::Rs(y) => actions::rs::execute(regs, mem, map, c, y, code::split_rs(h1, h2)),
+        Action::Si(y) => actions::si::execute(regs, mem, map, c, y, code::split_si(h1, h2)),
+        Action::Ss(y) => actions::ss::execute(regs, mem, map, c, y, code::split_ss(h1, h2, h3)),
+    }
+}
+
+fn mark_half(map: &mut [u16], at: u32, wanted: bool)
+    ensures { λ _. ⌜ now (map .exit) ≡ markHalf wanted (now (map .entry)) at ⌝ }
+{
+    if wanted {
         fields::note_field(map, at, 2);
     }
 }
 
-fn rx(regs: &mut [u32], mem: &mut [u8], map: &mut [u16], c: Now, x: RxAction, h1: u16) -> Out
-    ensures { λ r. ⌜ told r (now (regs .exit)) c (framedOf (now (mem .exit)) (now (map .exit))) ≡ doing (act (Action.Rx x) h1) (now (regs .entry)) c (framedOf (now (mem .entry)) (now (map .entry))) ⌝ }
+// G set on the pages of so many halfwords.
+fn mark_halves(map: &mut [u16], pc: u32, n: u32)
+    ensures { λ _. ⌜ now (map .exit) ≡ markHalves n (now (map .entry)) pc ⌝ }
 {
-    let at = actions::registers::ahead_of(regs, c, 2);
-    let half = fetch(mem, map, at);
-    let Half::Got(h2) = half else {
-        return missing(half);
-    };
-    let out = actions::rx::execute(regs, mem, map, c, x, code::split_rx(h1, h2));
-    mark(map, at, out);
-    out
+    mark_half(map, past_of(pc, 4), 2 < n);
+    mark_half(map, past_of(pc, 2), 1 < n);
+    fields::note_field(map, pc, 2);
 }
 
-fn rs(regs: &mut [u32], mem: &mut [u8], map: &mut [u16], c: Now, x: RsAction, h1: u16) -> Out
-    ensures { λ r. ⌜ told r (now (regs .exit)) c (framedOf (now (mem .exit)) (now (map .exit))) ≡ doing (act (Action.Rs x) h1) (now (regs .entry)) c (framedOf (now (mem .entry)) (now (map .entry))) ⌝ }
+// The marks of an instruction that completed. Six bytes that start at or below displacement 4,090 have one page.
+pub fn mark(map: &mut [u16], pc: u32, h1: u16, out: Out)
+    requires { ⌜ pc < 16777216 ⌝ }
+    ensures { λ _. ⌜ now (map .exit) ≡ markedText out (now (map .entry)) pc h1 ⌝ }
 {
-    let at = actions::registers::ahead_of(regs, c, 2);
-    let half = fetch(mem, map, at);
-    let Half::Got(h2) = half else {
-        return missing(half);
-    };
-    let out = actions::rs::execute(regs, mem, map, c, x, code::split_rs(h1, h2));
-    mark(map, at, out);
-    out
-}
-
-fn si(regs: &[u32], mem: &mut [u8], map: &mut [u16], c: Now, x: SiAction, h1: u16) -> Out
-    ensures { λ r. ⌜ told r (now (regs .entry)) c (framedOf (now (mem .exit)) (now (map .exit))) ≡ doing (act (Action.Si x) h1) (now (regs .entry)) c (framedOf (now (mem .entry)) (now (map .entry))) ⌝ }
-{
-    let at = actions::registers::ahead_of(regs, c, 2);
-    let half = fetch(mem, map, at);
-    let Half::Got(h2) = half else {
-        return missing(half);
-    };
-    let out = actions::si::execute(regs, mem, map, c, x, code::split_si(h1, h2));
-    mark(map, at, out);
-    out
-}
-
-fn ss_last(
-    regs: &[u32],
-    mem: &mut [u8],
-    map: &mut [u16],
-    c: Now,
-    x: SsAction,
-    h1: u16,
-    h2: u16,
-) -> Out
-    ensures { λ r. ⌜ told r (now (regs .entry)) c (framedOf (now (mem .exit)) (now (map .exit))) ≡ doing (λ d. halfword (ahead d 4) (λ h3. ss x (ssOf h1 h2 h3) d)) (now (regs .entry)) c (framedOf (now (mem .entry)) (now (map .entry))) ⌝ }
-{
-    let at = actions::registers::ahead_of(regs, c, 4);
-    let half = fetch(mem, map, at);
-    let Half::Got(h3) = half else {
-        return missing(half);
-    };
-    let out = actions::ss::execute(regs, mem, map, c, x, code::split_ss(h1, h2, h3));
-    mark(map, at, out);
-    out
-}
-
-fn ss(regs: &[u32], mem: &mut [u8], map: &mut [u16], c: Now, x: SsAction, h1: u16) -> Out
-    ensures { λ r. ⌜ told r (now (regs .entry)) c (framedOf (now (mem .exit)) (now (map .exit))) ≡ doing (act (Action.Ss x) h1) (now (regs .entry)) c (framedOf (now (mem .entry)) (now (map .entry))) ⌝ }
-{
-    let at = actions::registers::ahead_of(regs, c, 2);
-    let half = fetch(mem, map, at);
-    let Half::Got(h2) = half else {
-        return missing(half);
-    };
-    let out = ss_last(regs, mem, map, c, x, h1, h2);
-    mark(map, at, out);
-    out
-}
-
-pub fn finish(regs: &mut [u32], mem: &mut [u8], map: &mut [u16], c: Now, x: Action, h1: u16) -> Out
-    ensures { λ r. ⌜ told r (now (regs .exit)) c (framedOf (now (mem .exit)) (now (map .exit))) ≡ doing (act x h1) (now (regs .entry)) c (framedOf (now (mem .entry)) (now (map .entry))) ⌝ }
-{
-    match x {
-        Action::Rr(y) => Out::Done(actions::rr::execute(regs, c, y, code::split_rr(h1))),
-        Action::Rx(y) => rx(regs, mem, map, c, y, h1),
-        Action::Rs(y) => rs(regs, mem, map, c, y, h1),
-        Action::Si(y) => si(regs, mem, map, c, y, h1),
-        Action::Ss(y) => ss(regs, mem, map, c, y, h1),
+    if let Out::Done(_) = out {
+        if pc % 4096 <= 4090 {
+            pages::note(map, pc);
+            return;
+        }
+        mark_halves(map, pc, halves_of(h1));
     }
 }

@@ -5,14 +5,13 @@ pub mod stepping;
 
 use actions::Now;
 use machine::Reply;
-use pages::Look;
 ghost use mathlib.Core.Path.{_≡_};
 ghost use Rattle.machine.specs.Machine.{given, outcome, stepOutcome, runOutcome};
 
-// A halfword of the instruction, or the look-up's refusal.
-pub enum Half {
-    Got(u16),
-    Missing(Look),
+// An instruction's halfwords from the counter on, or the refusal that comes before them all are had.
+pub enum Text {
+    Whole(u16, u16, u16),
+    Stop(u32, u32),
 }
 
 // How a run ended.

@@ -1,10 +1,9 @@
 // One step, and a run of steps.
-use crate::Half;
 use crate::Ran;
+use crate::Text;
 use crate::formats;
 use actions::Now;
 use actions::Out;
-use code::Found;
 ghost use mathlib.Core.Path.{_≡_};
 ghost use Prim.Native.Nat.{_≤_};
 ghost use Rattle.pages.specs.Framed.{framedOf};
@@ -21,17 +20,15 @@ pub fn step_once(regs: &mut [u32], mem: &mut [u8], map: &mut [u16], c: Now) -> O
     if pc % 2 == 1 {
         return Out::Stop(2, pc);
     }
-    let half = formats::fetch(mem, map, pc);
-    let Half::Got(h1) = half else {
-        return formats::missing(half);
-    };
-    let found = code::action_of((h1 / 256) as u8);
-    let Found::Known(x) = found else {
-        return Out::Stop(5, pc);
-    };
-    let out = formats::finish(regs, mem, map, c, x, h1);
-    formats::mark(map, pc, out);
-    out
+    let text = formats::text(mem, map, pc);
+    match text {
+        Text::Stop(number, place) => Out::Stop(number, place),
+        Text::Whole(h1, h2, h3) => {
+            let out = formats::finish(regs, mem, map, c, h1, h2, h3);
+            formats::mark(map, pc, h1, out);
+            out
+        }
+    }
 }
 
 // At most a budget of steps, up to the first refusal.

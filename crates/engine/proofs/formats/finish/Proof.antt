@@ -1,17 +1,37 @@
-use mathlib.Core.Path.{_∙_, ap}
-use Rattle.machine.specs.Step.{act}
 use Rattle.actions.proofs.Executed.{no-storage}
+use Rattle.engine.specs.Entry.{whole}
+use Rattle.engine.proofs.Texts.{unknown-stop}
 use borrow.Author.Needs.{needs}
 use Rattle.engine.proofs.formats.finish.Statement.{statement}
 use Rattle.engine.proofs.formats.finish.Tie as tie
 use Rattle.engine.proofs.formats.finish.Reads as reads
 use Rattle.engine.proofs.formats.finish.Lts as lts
-use Rattle.actions.proofs.rr.execute.Reads as execute-reads
+use Rattle.actions.proofs.rr.execute.Reads as rr-execute-reads
+use Rattle.actions.proofs.rs.execute.Reads as rs-execute-reads
+use Rattle.actions.proofs.rx.execute.Reads as rx-execute-reads
+use Rattle.actions.proofs.si.execute.Reads as si-execute-reads
+use Rattle.actions.proofs.ss.execute.Reads as ss-execute-reads
+use Rattle.code.proofs.action_of.Reads as action-of-reads
 use Rattle.code.proofs.split_rr.Reads as split-rr-reads
-use Rattle.engine.proofs.formats.rs.Reads as rs-reads
-use Rattle.engine.proofs.formats.rx.Reads as rx-reads
-use Rattle.engine.proofs.formats.si.Reads as si-reads
-use Rattle.engine.proofs.formats.ss.Reads as ss-reads
+use Rattle.code.proofs.split_rs.Reads as split-rs-reads
+use Rattle.code.proofs.split_rx.Reads as split-rx-reads
+use Rattle.code.proofs.split_si.Reads as split-si-reads
+use Rattle.code.proofs.split_ss.Reads as split-ss-reads
+
+cast-action-of : tie.Need-cast-action-of
+cast-action-of c = search needs
+
+action-of-requires : tie.Need-action-of-requires
+action-of-requires c κs = search needs
+
+enum-known-found : tie.Need-enum-known-found
+enum-known-found c = search needs
+
+enum-told : tie.Need-enum-told
+enum-told c = search needs
+
+returns : tie.Need-returns
+returns c = unknown-stop _ _ _ _ _ _ _ _ (c .before .before .action-of .ensures) ((c .enum-told .given) .1)
 
 enum-known-x : tie.Need-enum-known-x
 enum-known-x c = search needs
@@ -25,33 +45,45 @@ execute-requires c κs = search needs
 enum-known-x-2 : tie.Need-enum-known-x-2
 enum-known-x-2 c = search needs
 
-rx-requires : tie.Need-rx-requires
-rx-requires c κs = search needs
+split-rx-requires : tie.Need-split-rx-requires
+split-rx-requires c κs = search needs
+
+execute-requires-2 : tie.Need-execute-requires-2
+execute-requires-2 c κs = search needs
 
 enum-known-x-3 : tie.Need-enum-known-x-3
 enum-known-x-3 c = search needs
 
-rs-requires : tie.Need-rs-requires
-rs-requires c κs = search needs
+split-rs-requires : tie.Need-split-rs-requires
+split-rs-requires c κs = search needs
+
+execute-requires-3 : tie.Need-execute-requires-3
+execute-requires-3 c κs = search needs
 
 enum-known-x-4 : tie.Need-enum-known-x-4
 enum-known-x-4 c = search needs
 
-si-requires : tie.Need-si-requires
-si-requires c κs = search needs
+split-si-requires : tie.Need-split-si-requires
+split-si-requires c κs = search needs
+
+execute-requires-4 : tie.Need-execute-requires-4
+execute-requires-4 c κs = search needs
 
 enum-known-x-5 : tie.Need-enum-known-x-5
 enum-known-x-5 c = search needs
 
-ss-requires : tie.Need-ss-requires
-ss-requires c κs = search needs
+split-ss-requires : tie.Need-split-ss-requires
+split-ss-requires c κs = search needs
+
+execute-requires-5 : tie.Need-execute-requires-5
+execute-requires-5 c κs = search needs
 
 same-length : tie.Need-same-length
 same-length c = search needs
 
-returns : tie.Need-returns
-unfolding act
-returns c = rw ((c .before .before .before .before .before .before .x .given) .1, ← (c .before .before .before .split-rr .ensures)) (no-storage _ _ _ _ _ _ (c .before .before .execute .ensures))
+returns-2 : tie.Need-returns-2
+unfolding whole
+returns-2 c = rw (← (c .before .before .before .before .before .before .before .before .before .before .before .action-of .ensures), (c .before .before .before .before .before .before .before .before .before .found .given) .1, (c .before .before .before .before .before .before .x .given) .1, ← (c .before .before .before .split-rr .ensures)) (no-storage _ _ _ _ _ _ (c .before .before .execute .ensures))
 
 same-length-2 : tie.Need-same-length-2
 same-length-2 c = search needs
@@ -62,8 +94,9 @@ same-length-3 c = search needs
 same-length-4 : tie.Need-same-length-4
 same-length-4 c = search needs
 
-returns-2 : tie.Need-returns-2
-returns-2 c = rw ((c .before .before .before .before .before .before .before .before .before .before .before .x2 .given) .1) (c .before .before .before .before .before .before .rx .ensures)
+returns-3 : tie.Need-returns-3
+unfolding whole
+returns-3 c = rw (← (c .before .before .before .before .before .before .before .before .before .before .before .before .before .before .before .before .before .action-of .ensures), (c .before .before .before .before .before .before .before .before .before .before .before .before .before .before .before .found .given) .1, (c .before .before .before .before .before .before .before .before .before .before .before .before .x2 .given) .1, ← (c .before .before .before .before .before .before .before .split-rx .ensures)) (c .before .before .before .before .before .before .execute2 .ensures)
 
 same-length-5 : tie.Need-same-length-5
 same-length-5 c = search needs
@@ -74,8 +107,9 @@ same-length-6 c = search needs
 same-length-7 : tie.Need-same-length-7
 same-length-7 c = search needs
 
-returns-3 : tie.Need-returns-3
-returns-3 c = rw ((c .before .before .before .before .before .before .before .before .before .before .before .x3 .given) .1) (c .before .before .before .before .before .before .rs .ensures)
+returns-4 : tie.Need-returns-4
+unfolding whole
+returns-4 c = rw (← (c .before .before .before .before .before .before .before .before .before .before .before .before .before .before .before .before .before .action-of .ensures), (c .before .before .before .before .before .before .before .before .before .before .before .before .before .before .before .found .given) .1, (c .before .before .before .before .before .before .before .before .before .before .before .before .x3 .given) .1, ← (c .before .before .before .before .before .before .before .split-rs .ensures)) (c .before .before .before .before .before .before .execute3 .ensures)
 
 same-length-8 : tie.Need-same-length-8
 same-length-8 c = search needs
@@ -86,8 +120,9 @@ same-length-9 c = search needs
 same-length-10 : tie.Need-same-length-10
 same-length-10 c = search needs
 
-returns-4 : tie.Need-returns-4
-returns-4 c = rw ((c .before .before .before .before .before .before .before .before .before .x4 .given) .1) (c .before .before .before .before .si .ensures)
+returns-5 : tie.Need-returns-5
+unfolding whole
+returns-5 c = rw (← (c .before .before .before .before .before .before .before .before .before .before .before .before .before .before .before .action-of .ensures), (c .before .before .before .before .before .before .before .before .before .before .before .before .before .found .given) .1, (c .before .before .before .before .before .before .before .before .before .before .x4 .given) .1, ← (c .before .before .before .before .before .split-si .ensures)) (c .before .before .before .before .execute4 .ensures)
 
 same-length-11 : tie.Need-same-length-11
 same-length-11 c = search needs
@@ -98,39 +133,49 @@ same-length-12 c = search needs
 same-length-13 : tie.Need-same-length-13
 same-length-13 c = search needs
 
-returns-5 : tie.Need-returns-5
-returns-5 c = rw ((c .before .before .before .before .before .before .before .before .before .x5 .given) .1) (c .before .before .before .before .ss .ensures)
+returns-6 : tie.Need-returns-6
+unfolding whole
+returns-6 c = rw (← (c .before .before .before .before .before .before .before .before .before .before .before .before .before .before .before .action-of .ensures), (c .before .before .before .before .before .before .before .before .before .before .before .before .before .found .given) .1, (c .before .before .before .before .before .before .before .before .before .before .x5 .given) .1, ← (c .before .before .before .before .before .split-ss .ensures)) (c .before .before .before .before .execute5 .ensures)
 
 pub finish-spec : {M : Type 1} → statement M
 finish-spec =
     tie.close
     (tie.spec
+    cast-action-of
+    action-of-requires
+    enum-known-found
+    enum-told
+    returns
     enum-known-x
     split-rr-requires
     execute-requires
     enum-known-x-2
-    rx-requires
+    split-rx-requires
+    execute-requires-2
     enum-known-x-3
-    rs-requires
+    split-rs-requires
+    execute-requires-3
     enum-known-x-4
-    si-requires
+    split-si-requires
+    execute-requires-4
     enum-known-x-5
-    ss-requires
+    split-ss-requires
+    execute-requires-5
     same-length
-    returns
+    returns-2
     same-length-2
     same-length-3
     same-length-4
-    returns-2
+    returns-3
     same-length-5
     same-length-6
     same-length-7
-    returns-3
+    returns-4
     same-length-8
     same-length-9
     same-length-10
-    returns-4
+    returns-5
     same-length-11
     same-length-12
     same-length-13
-    returns-5)
+    returns-6)
