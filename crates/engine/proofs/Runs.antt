@@ -23,8 +23,13 @@ use Rattle.engine.specs.Entry.{ranAs}
 abbrev pub adds : ℕ → Result Cpu Framed → Result Cpu Framed
 adds n r = record { stop = r .stop; place = r .place; count = n + r .count; cpu = r .cpu; held = r .held }
 
-pub adds-none : (r : Result Cpu Framed) → r ≡ adds 0 r
+adds-none : (r : Result Cpu Framed) → r ≡ adds 0 r
 adds-none r = λ i. record { stop = r .stop; place = r .place; count = sym (zero-add (r .count)) i; cpu = r .cpu; held = r .held }
+
+pub run-start : (budget : ℕ) (c : Cpu) (s : Framed) → run opsFor step budget c s ≡ adds 0 (run opsFor step (budget - 0) c s)
+run-start budget c s =
+    let z : budget ≡ budget - 0 = omega arith in
+    adds-none (run opsFor step budget c s) ∙ ap (λ (b : ℕ). adds 0 (run opsFor step b c s)) z
 
 adds-more : (n : ℕ) (r : Result Cpu Framed) → adds n (oneMore r) ≡ adds (n + 1) r
 adds-more n r =
@@ -48,16 +53,16 @@ was-refused c (finished d t) go r z e =
     absurd (let y : _≡_ {A = ℕ} 0 1 = sym z ∙ ap (λ (q : Result Cpu Framed). q .count) e in omega arith)
 was-refused c (refused n a t) go r z e = e
 
-module _ (regs mem map : List ℕ) (at : Now) (left count : ℕ) (h : 0 < left) where
-  here : Result Cpu Framed
-  here = run opsFor step left (cpuOf regs at) (framedOf mem map)
-
+module _ (regs mem map : List ℕ) (at : Now) (budget count : ℕ) (h : count < budget) where
   pub run-on : (out : Out) (next : Now) (regs′ mem′ map′ : List ℕ)
       → told out regs′ at (framedOf mem′ map′) ≡ doing step regs at (framedOf mem map) → out ≡ Done next
-      → adds count (run opsFor step left (cpuOf regs at) (framedOf mem map))
-      ≡ adds (count + 1) (run opsFor step (left - 1) (cpuOf regs′ next) (framedOf mem′ map′))
+      → adds count (run opsFor step (budget - count) (cpuOf regs at) (framedOf mem map))
+      ≡ adds (count + 1) (run opsFor step (budget - (count + 1)) (cpuOf regs′ next) (framedOf mem′ map′))
   unfolding run told
-  run-on out next regs′ mem′ map′ t o = go left h
+  run-on out next regs′ mem′ map′ t o =
+      let l : 0 < budget - count = omega arith in
+      let fewer : budget - count - 1 ≡ budget - (count + 1) = omega arith in
+      go (budget - count) l ∙ ap (λ (b : ℕ). adds (count + 1) (run opsFor step b (cpuOf regs′ next) (framedOf mem′ map′))) fewer
     where
       x : interp framed (step (cpuOf regs at)) (framedOf mem map) (framedOf mem map) ≡ finished (cpuOf regs′ next) (framedOf mem′ map′)
       x =
@@ -76,9 +81,9 @@ module _ (regs mem map : List ℕ) (at : Now) (left count : ℕ) (h : 0 < left) 
   pub run-stop : (out : Out) (number place : ℕ) (regs′ mem′ map′ : List ℕ)
       → told out regs′ at (framedOf mem′ map′) ≡ doing step regs at (framedOf mem map) → out ≡ Stop number place
       → ranAs (record { number = number; place = place; count = count; now = at }) regs′ (framedOf mem′ map′)
-      ≡ adds count (run opsFor step left (cpuOf regs at) (framedOf mem map))
+      ≡ adds count (run opsFor step (budget - count) (cpuOf regs at) (framedOf mem map))
   unfolding run told
-  run-stop out number place regs′ mem′ map′ t o = go left h
+  run-stop out number place regs′ mem′ map′ t o = let l : 0 < budget - count = omega arith in go (budget - count) l
     where
       r : Result Cpu Framed
       r = record { stop = number; place = place; count = 0; cpu = cpuOf regs′ at; held = framedOf mem′ map′ }
@@ -99,11 +104,11 @@ module _ (regs mem map : List ℕ) (at : Now) (left count : ℕ) (h : 0 < left) 
           ∙ ap (adds count)
           (was-refused (cpuOf regs at) (interp framed (step (cpuOf regs at)) (framedOf mem map) (framedOf mem map)) (λ c′ s′. run opsFor step b c′ s′) r refl x)
 
-pub run-spent : (regs mem map : List ℕ) (at : Now) (left count : ℕ) → left ≤ 0
+pub run-spent : (regs mem map : List ℕ) (at : Now) (budget count : ℕ) → budget ≤ count
     → ranAs (record { number = 7; place = 0; count = count; now = at }) regs (framedOf mem map)
-    ≡ adds count (run opsFor step left (cpuOf regs at) (framedOf mem map))
+    ≡ adds count (run opsFor step (budget - count) (cpuOf regs at) (framedOf mem map))
 unfolding run
-run-spent regs mem map at left count h =
-    let z : left ≡ 0 = omega arith in
+run-spent regs mem map at budget count h =
+    let z : budget - count ≡ 0 = omega arith in
     rw z
     (λ i. record { stop = 7; place = 0; count = sym (add-zero count) i; cpu = cpuOf regs at; held = framedOf mem map })

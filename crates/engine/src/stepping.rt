@@ -37,8 +37,7 @@ pub fn run_steps(regs: &mut [u32], mem: &mut [u8], map: &mut [u16], c: Now, budg
 {
     let mut at = c;
     let mut count: u32 = 0;
-    let mut left = budget;
-    while 0 < left {
+    while count < budget {
         let out = step_once(regs, mem, map, at);
         match out {
             Out::Stop(number, place) => {
@@ -52,7 +51,6 @@ pub fn run_steps(regs: &mut [u32], mem: &mut [u8], map: &mut [u16], c: Now, budg
             Out::Done(next) => {
                 at = next;
                 count = count + 1;
-                left = left - 1;
             }
         }
     }

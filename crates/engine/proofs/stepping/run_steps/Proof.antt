@@ -1,5 +1,5 @@
 use borrow.Author.Needs.{needs}
-use Prim.Native.Nat.{_+_}
+use Prim.Native.Nat.{_-_, _≤_}
 use native.Mathlib.Omega.{arith}
 use mathlib.Core.Path.{_≡_, refl, sym, _∙_}
 use lib.ListN.{length}
@@ -8,7 +8,7 @@ use Rattle.machine.specs.Run.{run}
 use Rattle.machine.specs.Step.{step}
 use Rattle.machine.specs.Machine.{opsFor}
 use Rattle.actions.specs.Told.{cpuOf}
-use Rattle.engine.proofs.Runs.{adds, adds-none, run-on, run-stop, run-spent}
+use Rattle.engine.proofs.Runs.{adds, run-start, run-on, run-stop, run-spent}
 use Rattle.engine.proofs.stepping.run_steps.Statement.{statement}
 use Rattle.engine.proofs.stepping.run_steps.Tie as tie
 use Rattle.engine.proofs.stepping.run_steps.Reads as reads
@@ -16,13 +16,13 @@ use Rattle.engine.proofs.stepping.run_steps.Lts as lts
 use Rattle.engine.proofs.stepping.step_once.Reads as step-once-reads
 
 abbrev Inv-loop : tie.InvT-loop
-Inv-loop regs₀ mem₀ map₀ budget at₀ count₀ left₀ regs mem map at count left = (run opsFor step budget (cpuOf regs₀ at₀) (framedOf mem₀ map₀) ≡ adds count (run opsFor step left (cpuOf regs at) (framedOf mem map))) × (count + left ≡ budget) × (length regs ≡ length regs₀) × (length mem ≡ length mem₀) × (length map ≡ length map₀)
+Inv-loop regs₀ mem₀ map₀ budget at₀ count₀ regs mem map at count = (run opsFor step budget (cpuOf regs₀ at₀) (framedOf mem₀ map₀) ≡ adds count (run opsFor step (budget - count) (cpuOf regs at) (framedOf mem map))) × (count ≤ budget) × (length regs ≡ length regs₀) × (length mem ≡ length mem₀) × (length map ≡ length map₀)
 
 abbrev μ-loop : tie.MeasureT-loop
-μ-loop regs₀ mem₀ map₀ budget at₀ count₀ left₀ regs mem map at count left = left
+μ-loop regs₀ mem₀ map₀ budget at₀ count₀ regs mem map at count = budget - count
 
 loop-holds : tie.Need-loop-holds Inv-loop μ-loop
-loop-holds c = (adds-none _, omega arith, refl, refl, refl)
+loop-holds c = (run-start _ _ _, omega arith, refl, refl, refl)
 
 step-once-requires : tie.Need-step-once-requires Inv-loop μ-loop
 step-once-requires c κs = search needs
@@ -47,9 +47,6 @@ enum-known-out-2 c = search needs
 
 add-count : tie.Need-add-count Inv-loop μ-loop
 add-count c = omega arith
-
-sub-left : tie.Need-sub-left Inv-loop μ-loop
-sub-left c = omega arith
 
 loop-less : tie.Need-loop-less Inv-loop μ-loop
 loop-less c = omega arith
@@ -84,7 +81,6 @@ run-steps-spec =
     returns
     enum-known-out-2
     add-count
-    sub-left
     loop-less
     loop-again
     same-length-4
