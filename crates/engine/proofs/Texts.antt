@@ -199,6 +199,31 @@ module _ (s : Framed) (pc second third h1 h2 h3 n : ℕ) where
   unfolding textOf
   text-each from-third from-second r es et e1 e2 e3 en f3 f2 f1 = rw (f1, f2, f3, en, e3, e2, e1, et, es)
 
+-- a text whose halfwords are all found
+found-stays : (b : Bool) (r : ℕ) (t : Text) → unless b (At r) t ≡ t
+found-stays true r t = refl
+found-stays false r t = refl
+
+module _ (s : Framed) (pc : ℕ) (l : pc + 6 ≤ 2097152) where
+  pub text-found : (r1 r2 r3 h1 h2 h3 : ℕ) → At r1 ≡ lookHalf s (pc + 0) → At r2 ≡ lookHalf s (pc + 2) → At r3 ≡ lookHalf s (pc + 4)
+      → h1 ≡ readField s (pc + 0) 2 0 → h2 ≡ readField s (pc + 2) 2 0 → h3 ≡ readField s (pc + 4) 2 0
+      → T.Whole h1 h2 h3 ≡ textOf s pc
+  unfolding textOf
+  text-found r1 r2 r3 h1 h2 h3 l1 l2 l3 e1 e2 e3 =
+      let zero-on : pc ≡ pc + 0 = omega arith in
+      let two-on : past pc 2 ≡ pc + 2 = omega arith in
+      let four-on : past pc 4 ≡ pc + 4 = omega arith in
+      let f1 : lookHalf s pc ≡ At r1 = ap (lookHalf s) zero-on ∙ sym l1 in
+      let f2 : lookHalf s (past pc 2) ≡ At r2 = ap (lookHalf s) two-on ∙ sym l2 in
+      let f3 : lookHalf s (past pc 4) ≡ At r3 = ap (lookHalf s) four-on ∙ sym l3 in
+      let g1 : readField s pc 2 0 ≡ h1 = ap (λ (a : ℕ). readField s a 2 0) zero-on ∙ sym e1 in
+      let g2 : readField s (past pc 2) 2 0 ≡ h2 = ap (λ (a : ℕ). readField s a 2 0) two-on ∙ sym e2 in
+      let g3 : readField s (past pc 4) 2 0 ≡ h3 = ap (λ (a : ℕ). readField s a 2 0) four-on ∙ sym e3 in
+      rw (f1, f2, f3, g1, g2, g3)
+      (sym
+      (found-stays (ltb 1 (halvesOf h1)) r2 (unless (ltb 2 (halvesOf h1)) (At r3) (T.Whole h1 h2 h3))
+      ∙ found-stays (ltb 2 (halvesOf h1)) r3 (T.Whole h1 h2 h3)))
+
 -- a refusal in the text's place; a look-up that refuses is never done
 module _ (look : Look) (d : Cause) (b : ℕ) (l : look ≡ Refused d b) (out : Out) (o : out ≡ refusalOf look) (text : Text) where
   pub stop-told : (k a : ℕ) → out ≡ Stop k a → T.Stop k a ≡ orStop look text
