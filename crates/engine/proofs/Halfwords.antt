@@ -1,7 +1,7 @@
 -- A halfword of the instruction: refused, or fetched, the rest done, and its mark set last.
 use Prim.Native.Nat.{ℕ, zero, suc, _+_, _*_}
 use native.Mathlib.Omega.{arith}
-use mathlib.Core.Path.{_≡_, refl, sym, _∙_, ap}
+use mathlib.Core.Path.{_≡_, refl, _∙_, ap}
 use mathlib.Core.List.{List}
 use Rattle.pages.specs.declared.Access.the-variants.{Fetch}
 use Rattle.pages.specs.declared.Look.{Look}
@@ -9,7 +9,7 @@ use Rattle.pages.specs.declared.Look.the-variants.{At, Refused}
 use Rattle.pages.specs.Word.{next}
 use Rattle.pages.specs.Framed.{Framed, framedOf, noted, readByte}
 use Rattle.machine.specs.Prog.{Prog, Answer, finished, refused, interp}
-use Rattle.machine.specs.Fields.{looks, gets, halfword}
+use Rattle.machine.specs.Fields.{gets, halfword}
 use Rattle.machine.specs.Store.{framed}
 use Rattle.machine.proofs.Late.{late, read-noted, onStore}
 use Rattle.fields.specs.Direct.{noteField, readField}

@@ -1,5 +1,6 @@
 mod Halfwords
 mod Texts
+mod Quick
 mod Marked
 mod Lengths
 mod Runs

@@ -8,11 +8,11 @@ use lib.Dec.{ltb}
 use Rattle.pages.specs.Word.{pageOf}
 use Rattle.pages.specs.Framed.{accessedAt}
 use Rattle.fields.specs.Direct.{noteField}
-use Rattle.fields.proofs.Stretch.{accessed-again, note-once}
+use Rattle.fields.proofs.Once.{accessed-again, note-once}
 use Rattle.actions.specs.declared.Now.{Now}
 use Rattle.actions.specs.declared.Out.{Out}
-use Rattle.actions.specs.declared.Out.the-variants.{Done, Stop}
-use Rattle.engine.specs.Entry.{past, halvesOf, markHalf, markFurther, markHalves, markedText}
+use Rattle.actions.specs.declared.Out.the-variants.{Done}
+use Rattle.engine.specs.Entry.{past, halvesOf, markHalf, markHalves, markedText}
 
 same-page-mark : (map : List ℕ) (a b : ℕ) → pageOf b ≡ pageOf a → accessedAt map a ≡ accessedAt map b
 unfolding accessedAt

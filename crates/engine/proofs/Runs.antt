@@ -5,7 +5,7 @@ use native.Mathlib.Nat.{zero-add, add-zero}
 use mathlib.Core.Path.{_≡_, refl, sym, _∙_, ap}
 use mathlib.Core.List.{List}
 use Rattle.pages.specs.Framed.{Framed, framedOf}
-use Rattle.machine.specs.Prog.{Prog, Answer, finished, refused, interp}
+use Rattle.machine.specs.Prog.{Answer, finished, refused, interp}
 use Rattle.machine.specs.Run.{Result, one, oneMore, afterStep, run}
 use Rattle.machine.specs.Store.{framed}
 use Rattle.machine.specs.Cpu.{Cpu}
@@ -16,7 +16,6 @@ use Rattle.actions.specs.declared.Now.{Now}
 use Rattle.actions.specs.declared.Out.{Out}
 use Rattle.actions.specs.declared.Out.the-variants.{Done, Stop}
 use Rattle.actions.specs.Told.{cpuOf, told, doing}
-use Rattle.engine.specs.declared.Ran.{Ran}
 use Rattle.engine.specs.Entry.{ranAs}
 
 -- n steps more

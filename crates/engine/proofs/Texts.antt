@@ -18,7 +18,7 @@ use Rattle.pages.specs.Tests.{numberOf}
 use Rattle.pages.specs.Look.{lookOf}
 use Rattle.pages.specs.Framed.{Framed, framedOf}
 use Rattle.pages.proofs.LookLaws.{look-1}
-use Rattle.machine.specs.Prog.{Prog, Answer, finished, refused, interp}
+use Rattle.machine.specs.Prog.{Answer, finished, refused, interp}
 use Rattle.machine.specs.Run.{Result, one}
 use Rattle.machine.specs.Store.{framed}
 use Rattle.machine.specs.Cpu.{Cpu, ahead}
@@ -34,7 +34,7 @@ use Rattle.code.specs.declared.Found.{Found}
 use Rattle.code.specs.declared.Found.the-variants.{Known, Unknown}
 use Rattle.code.specs.Table.{actionOf}
 use Rattle.code.specs.Formats.{opOf, rxOf, rsOf, siOf, ssOf}
-use Rattle.fields.specs.Direct.{orElse, lookField, lookOne, readField}
+use Rattle.fields.specs.Direct.{lookField, lookOne, readField}
 use Rattle.actions.specs.declared.Now.{Now}
 use Rattle.actions.specs.declared.Out.{Out}
 use Rattle.actions.specs.declared.Out.the-variants.{Done, Stop}

@@ -79,7 +79,7 @@ fn checked(mem: &[u8], map: &[u16], at: u32, wanted: bool, text: Text) -> Text
 }
 
 // The halfwords from the counter on, each looked up by itself: the last first, so that the lowest refusal is the one that stays.
-pub fn text(mem: &[u8], map: &[u16], pc: u32) -> Text
+fn text_each(mem: &[u8], map: &[u16], pc: u32) -> Text
     ensures { λ r. ⌜ r ≡ textOf (framedOf (now (mem .entry)) (now (map .entry))) pc ⌝ }
 {
     let second = past_of(pc, 2);
@@ -92,6 +92,20 @@ pub fn text(mem: &[u8], map: &[u16], pc: u32) -> Text
     let from_third = checked(mem, map, third, 2 < n, whole);
     let from_second = checked(mem, map, second, 1 < n, from_third);
     checked(mem, map, pc, true, from_second)
+}
+
+// The halfwords from the counter on: by one look-up where the six bytes are plain. Those that the operation lacks are read with the rest.
+pub fn text(mem: &[u8], map: &[u16], pc: u32) -> Text
+    ensures { λ r. ⌜ r ≡ textOf (framedOf (now (mem .entry)) (now (map .entry))) pc ⌝ }
+{
+    if pages::is_plain(map, mem.len(), Access::Fetch, pc, 6) {
+        let r = pages::real_at(map, pc);
+        let h1 = fields::flat::half_of(mem, r);
+        let h2 = fields::flat::half_of(mem, r + 2);
+        let h3 = fields::flat::half_of(mem, r + 4);
+        return Text::Whole(h1, h2, h3);
+    }
+    text_each(mem, map, pc)
 }
 
 // The action of an instruction whose halfwords are in hand.

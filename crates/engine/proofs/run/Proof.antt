@@ -12,12 +12,6 @@ use Rattle.engine.proofs.stepping.run_steps.Reads as run-steps-reads
 is-proper-requires : tie.Need-is-proper-requires
 is-proper-requires c κs = search needs
 
-cast-t19 : tie.Need-cast-t19
-cast-t19 c = search needs
-
-cast-t21 : tie.Need-cast-t21
-cast-t21 c = search needs
-
 run-steps-requires : tie.Need-run-steps-requires
 run-steps-requires c κs = search needs
 
@@ -71,8 +65,6 @@ run-spec =
     tie.close
     (tie.spec
     is-proper-requires
-    cast-t19
-    cast-t21
     run-steps-requires
     run-reply-requires
     same-length

@@ -12,12 +12,6 @@ use Rattle.engine.proofs.stepping.step_once.Reads as step-once-reads
 is-proper-requires : tie.Need-is-proper-requires
 is-proper-requires c κs = search needs
 
-cast-t17 : tie.Need-cast-t17
-cast-t17 c = search needs
-
-cast-t19 : tie.Need-cast-t19
-cast-t19 c = search needs
-
 step-once-requires : tie.Need-step-once-requires
 step-once-requires c κs = search needs
 
@@ -56,8 +50,6 @@ step-spec =
     tie.close
     (tie.spec
     is-proper-requires
-    cast-t17
-    cast-t19
     step-once-requires
     step-reply-requires
     same-length

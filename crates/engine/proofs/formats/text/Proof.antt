@@ -1,55 +1,55 @@
-use Rattle.engine.proofs.Texts.{text-each}
+use Rattle.engine.proofs.Quick.{first-inside, second-inside, third-inside, text-plain}
 use borrow.Author.Needs.{needs}
 use Rattle.engine.proofs.formats.text.Statement.{statement}
 use Rattle.engine.proofs.formats.text.Tie as tie
 use Rattle.engine.proofs.formats.text.Reads as reads
 use Rattle.engine.proofs.formats.text.Lts as lts
-use Rattle.engine.proofs.formats.checked.Reads as checked-reads
-use Rattle.engine.proofs.formats.halves_of.Reads as halves-of-reads
-use Rattle.engine.proofs.formats.past_of.Reads as past-of-reads
-use Rattle.fields.proofs.read_half.Reads as read-half-reads
+use Rattle.engine.proofs.formats.text_each.Reads as text-each-reads
+use Rattle.fields.proofs.flat.half_of.Reads as half-of-reads
+use Rattle.pages.proofs.is_plain.Reads as is-plain-reads
+use Rattle.pages.proofs.real_at.Reads as real-at-reads
 
-past-of-requires : tie.Need-past-of-requires
-past-of-requires c κs = search needs
+is-plain-requires : tie.Need-is-plain-requires
+is-plain-requires c κs = search needs
 
-past-of-requires-2 : tie.Need-past-of-requires-2
-past-of-requires-2 c κs = search needs
+real-at-requires : tie.Need-real-at-requires
+real-at-requires c κs = search needs
 
-read-half-requires : tie.Need-read-half-requires
-read-half-requires c κs = search needs
+half-of-requires : tie.Need-half-of-requires
+half-of-requires c κs = first-inside (c .before .before .before .before .before .args .mem .now) _ _ _ (c .before .before .is-plain .ensures) (c .before .if1 .taken) _ ((c .real-at .ensures) .0)
 
-read-half-requires-2 : tie.Need-read-half-requires-2
-read-half-requires-2 c κs = search needs
+add-half-of : tie.Need-add-half-of
+add-half-of c = search needs
 
-read-half-requires-3 : tie.Need-read-half-requires-3
-read-half-requires-3 c κs = search needs
+half-of-requires-2 : tie.Need-half-of-requires-2
+half-of-requires-2 c κs = second-inside (c .before .before .before .before .before .before .args .mem .now) _ _ _ (c .before .before .before .is-plain .ensures) (c .before .before .if1 .taken) _ ((c .before .real-at .ensures) .0)
 
-halves-of-requires : tie.Need-halves-of-requires
-halves-of-requires c κs = search needs
+add-half-of-2 : tie.Need-add-half-of-2
+add-half-of-2 c = search needs
 
-checked-requires : tie.Need-checked-requires
-checked-requires c κs = search needs
-
-checked-requires-2 : tie.Need-checked-requires-2
-checked-requires-2 c κs = search needs
-
-checked-requires-3 : tie.Need-checked-requires-3
-checked-requires-3 c κs = search needs
+half-of-requires-3 : tie.Need-half-of-requires-3
+half-of-requires-3 c κs = third-inside (c .before .before .before .before .before .before .before .args .mem .now) _ _ _ (c .before .before .before .before .is-plain .ensures) (c .before .before .before .if1 .taken) _ ((c .before .before .real-at .ensures) .0)
 
 returns : tie.Need-returns
-returns c = text-each _ _ _ _ _ _ _ _ _ _ _ (c .before .before .before .before .before .before .before .before .past-of .ensures) (c .before .before .before .before .before .before .before .past-of2 .ensures) (c .before .before .before .before .before .before .read-half .ensures) (c .before .before .before .before .before .read-half2 .ensures) (c .before .before .before .before .read-half3 .ensures) (c .before .before .before .halves-of .ensures) (c .before .before .checked .ensures) (c .before .checked2 .ensures) (c .checked3 .ensures)
+returns c = text-plain _ _ _ _ (c .before .before .before .before .before .is-plain .ensures) (c .before .before .before .before .if1 .taken) _ ((c .before .before .before .real-at .ensures) .0) _ _ _ (c .before .before .half-of .ensures) (c .before .half-of2 .ensures) (c .half-of3 .ensures)
+
+text-each-requires : tie.Need-text-each-requires
+text-each-requires c κs = search needs
+
+returns-2 : tie.Need-returns-2
+returns-2 c = search needs
 
 pub text-spec : {M : Type 1} → statement M
 text-spec =
     tie.close
     (tie.spec
-    past-of-requires
-    past-of-requires-2
-    read-half-requires
-    read-half-requires-2
-    read-half-requires-3
-    halves-of-requires
-    checked-requires
-    checked-requires-2
-    checked-requires-3
-    returns)
+    is-plain-requires
+    real-at-requires
+    half-of-requires
+    add-half-of
+    half-of-requires-2
+    add-half-of-2
+    half-of-requires-3
+    returns
+    text-each-requires
+    returns-2)
