@@ -1,0 +1,70 @@
+//! The tables of figures.
+
+use crate::engine::ENGINES;
+use crate::programs::Program;
+use crate::timing::Timed;
+
+const TITLE: usize = 40;
+const COLUMN: usize = 14;
+
+fn figure(value: f64) -> String {
+    match value {
+        v if v < 100.0 => format!("{v:.1}"),
+        v => format!("{v:.0}"),
+    }
+}
+
+fn ratio(one: f64, other: f64) -> String {
+    format!("{:.2}", one / other)
+}
+
+fn line(title: &str, columns: &[String]) {
+    let columns: String = columns.iter().map(|c| format!("{c:>COLUMN$}")).collect();
+    println!("{title:<TITLE$}{columns}");
+}
+
+fn title(program: &Program) -> String {
+    format!("{}: {}", program.name, program.title)
+}
+
+fn heads(more: &[&str]) -> Vec<String> {
+    let own = ENGINES.iter().map(|engine| engine.title());
+    own.chain(more.iter().copied()).map(String::from).collect()
+}
+
+/// What the figures of each program are for, programs with the same unit together.
+pub fn units(programs: &[&Program]) -> String {
+    let mut said: Vec<(&str, String)> = Vec::new();
+    for program in programs {
+        match said.iter_mut().find(|(unit, _)| *unit == program.unit) {
+            Some((_, names)) => names.extend([' ', program.name]),
+            None => said.push((program.unit, program.name.to_string())),
+        }
+    }
+    let said: Vec<String> = said
+        .iter()
+        .map(|(unit, names)| format!("{unit} ({names})"))
+        .collect();
+    said.join(", ")
+}
+
+pub fn print_times(timed: &[Timed]) {
+    line("", &heads(&["Hercules", "to by page", "to Hercules"]));
+    for one in timed {
+        let (own, outside) = one.figures();
+        let mut columns: Vec<String> = own.iter().map(|value| figure(*value)).collect();
+        columns.push(outside.map_or("not here".to_string(), figure));
+        columns.push(ratio(own[0], own[2]));
+        columns.push(outside.map_or("-".to_string(), |value| ratio(own[0], value)));
+        line(&title(one.program), &columns);
+    }
+}
+
+pub fn print_counts(counted: &[(&Program, Vec<f64>)]) {
+    line("", &heads(&["to by page"]));
+    for (program, counts) in counted {
+        let mut columns: Vec<String> = counts.iter().map(|value| figure(*value)).collect();
+        columns.push(ratio(counts[0], counts[2]));
+        line(&title(program), &columns);
+    }
+}
