@@ -43,7 +43,7 @@ const FAR: [u32; 6] = [
 
 pub fn case(number: u64) -> Case {
     let mut dice = Dice::new(number.wrapping_mul(0xD134_2543_DE82_EF95));
-    let frames = dice.pick(&[1, 2, 4, 4, 4, 8, 16, 64]);
+    let frames = dice.pick(&[1, 2, 2, 4, 4, 4, 4, 4, 4, 4, 4, 8, 8, 8, 16, 64]);
     let mut machine = Machine::new(frames as usize * PAGE);
     fill(&mut dice, &mut machine.memory);
     for word in &mut machine.map {

@@ -14,12 +14,7 @@ const PATIENCE: Duration = Duration::from_secs(300);
 const GUEST: u64 = 40_000;
 
 /// What a whole process executes for so many rounds.
-fn executed(
-    folder: &Path,
-    engine: Engine,
-    program: &Program,
-    rounds: u64,
-) -> Result<u64, String> {
+fn executed(folder: &Path, engine: Engine, program: &Program, rounds: u64) -> Result<u64, String> {
     let profile = folder.join("callgrind");
     let mut command = bounded::command();
     command

@@ -19,7 +19,7 @@ impl Dice {
 
     /// A number from 0 up to, not including, `limit`.
     pub fn below(&mut self, limit: u32) -> u32 {
-        ((self.roll() >> 32) * u64::from(limit) >> 32) as u32
+        (((self.roll() >> 32) * u64::from(limit)) >> 32) as u32
     }
 
     /// True once in so many.

@@ -11,8 +11,11 @@ fn said(answer: Answer) -> String {
     format!("{number} at {place:06X}, count {count}")
 }
 
-/// Where two lists first differ.
+/// Where two lists first differ. Equal ones, which is nearly all, are found so at once.
 fn first<T: PartialEq>(one: &[T], other: &[T]) -> Option<usize> {
+    if one == other {
+        return None;
+    }
     let common = one.iter().zip(other).position(|(a, b)| a != b);
     common.or((one.len() != other.len()).then(|| one.len().min(other.len())))
 }

@@ -49,10 +49,7 @@ fn rounds_for_hercules(hercules: &Hercules, program: &Program) -> Result<u32, St
 }
 
 impl Timed<'_> {
-    pub fn new<'a>(
-        program: &'a Program,
-        hercules: Option<&Hercules>,
-    ) -> Result<Timed<'a>, String> {
+    pub fn new<'a>(program: &'a Program, hercules: Option<&Hercules>) -> Result<Timed<'a>, String> {
         let start = |engine: Engine| (engine, rounds_for(engine, program), Duration::MAX);
         let hercules = match hercules {
             Some(hercules) => Some((
@@ -86,7 +83,10 @@ impl Timed<'_> {
         let each = |time: Duration, rounds: u32| {
             time.as_secs_f64() * 1e9 / (f64::from(rounds) * self.program.units as f64)
         };
-        let own = self.own.iter().map(|(_, rounds, best)| each(*best, *rounds));
+        let own = self
+            .own
+            .iter()
+            .map(|(_, rounds, best)| each(*best, *rounds));
         let outside = self
             .hercules
             .map(|(many, least, most)| each(most.saturating_sub(least), many - FEW));

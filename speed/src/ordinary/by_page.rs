@@ -83,21 +83,22 @@ fn stretch(
     })
 }
 
+/// The bytes after the first halfword where a page ends among them or before them, and the page of the last.
 #[cold]
 #[inline(never)]
 fn fetch_over_an_edge<const N: usize>(
     store: &Store,
     counter: u32,
-    code: &mut Code,
-) -> Result<[u8; N], Refusal> {
+) -> Result<([u8; N], usize), Refusal> {
     let mut bytes = [0; N];
+    let mut last = 0;
     for (i, half) in (1..).zip(bytes.chunks_exact_mut(2)) {
         let address = onward(counter, 2 * i);
         let real = store.look(address, Purpose::Read)?;
         half.copy_from_slice(&store.memory[real..real + 2]);
-        code.last = page_of(address);
+        last = page_of(address);
     }
-    Ok(bytes)
+    Ok((bytes, last))
 }
 
 /// A move between two stretches of real memory: as a slice where they do not overlap, and byte by byte where they do.
@@ -132,10 +133,11 @@ impl Access for ByPage {
         code: &mut Code,
     ) -> Result<[u8; N], Refusal> {
         if store.room(counter) >= 2 + N {
-            Ok(bytes_at(store, code.real + 2))
-        } else {
-            fetch_over_an_edge(store, counter, code)
+            return Ok(bytes_at(store, code.real + 2));
         }
+        let (bytes, last) = fetch_over_an_edge(store, counter)?;
+        code.last = last;
+        Ok(bytes)
     }
 
     #[inline(always)]

@@ -1,7 +1,9 @@
 //! The operations by format. `step` lets only those of the set through.
 
 use super::cpu::{nibbles, Cpu};
-use super::results::{add, add_logical, bits, signed, subtract, subtract_logical};
+use super::results::{
+    add, add_logical, below_zero, bits, signed, subtract, subtract_logical, without_sign,
+};
 use super::store::{Access, Refusal, ADDRESS};
 
 impl<A: Access> Cpu<'_, A> {
@@ -19,9 +21,9 @@ impl<A: Access> Cpu<'_, A> {
                 self.branch_if(left && r2 != 0, other);
             }
             0x07 => self.branch_if(self.picked(r1) && r2 != 0, other),
-            0x10 if (other as i32) < 0 => self.set(r1, subtract(0, other)),
-            0x11 if (other as i32) > 0 => self.set(r1, subtract(0, other)),
-            0x10..=0x12 => self.set(r1, signed(other, false)),
+            0x10 => self.set(r1, without_sign(other)),
+            0x11 => self.set(r1, below_zero(other)),
+            0x12 => self.set(r1, signed(other, false)),
             0x13 => self.set(r1, subtract(0, other)),
             0x14 => self.set(r1, bits(one & other)),
             0x15 => self.compare(one, other),

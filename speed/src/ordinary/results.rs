@@ -26,6 +26,24 @@ pub fn subtract(one: u32, other: u32) -> (u32, u32) {
 }
 
 #[inline(always)]
+pub fn without_sign(value: u32) -> (u32, u32) {
+    if (value as i32) < 0 {
+        subtract(0, value)
+    } else {
+        signed(value, false)
+    }
+}
+
+#[inline(always)]
+pub fn below_zero(value: u32) -> (u32, u32) {
+    if (value as i32) > 0 {
+        subtract(0, value)
+    } else {
+        signed(value, false)
+    }
+}
+
+#[inline(always)]
 fn logical(value: u32, carry: bool) -> (u32, u32) {
     (value, u32::from(value != 0) + 2 * u32::from(carry))
 }
