@@ -98,7 +98,7 @@ fn times(folder: &str, letters: &str, without: &str, repeats: &str) -> Result<()
         }
     }
     let units = table::units(&programs);
-    println!("figures: processor time in ns, best of {repeats}, of one {units}\n");
+    println!("figures: processor time in ns, best of {repeats}: {units}\n");
     table::print_times(&timed);
     Ok(())
 }
@@ -111,7 +111,7 @@ fn counts(folder: &str, letters: &str) -> Result<(), Trouble> {
         counted.push((*program, counts));
     }
     let units = table::units(&programs);
-    println!("figures: instructions of this processor for one {units}\n");
+    println!("figures: instructions of this processor: {units}\n");
     table::print_counts(&counted);
     Ok(())
 }

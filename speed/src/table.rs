@@ -32,20 +32,27 @@ fn heads(more: &[&str]) -> Vec<String> {
     own.chain(more.iter().copied()).map(String::from).collect()
 }
 
-/// What the figures of each program are for, programs with the same unit together.
+/// What the figures of these programs are for.
 pub fn units(programs: &[&Program]) -> String {
-    let mut said: Vec<(&str, String)> = Vec::new();
+    let mut units: Vec<&str> = Vec::new();
+    let mut said = Vec::new();
     for program in programs {
-        match said.iter_mut().find(|(unit, _)| *unit == program.unit) {
-            Some((_, names)) => names.extend([' ', program.name]),
-            None => said.push((program.unit, program.name.to_string())),
+        if units.contains(&program.unit) {
+            continue;
         }
+        units.push(program.unit);
+        let alike = programs.iter().filter(|other| other.unit == program.unit);
+        let names: Vec<String> = alike.map(|one| one.name.to_string()).collect();
+        said.push(format!("one {} ({})", program.unit, names.join(", ")));
     }
-    let said: Vec<String> = said
+    let mut said = said.join("; ");
+    if programs
         .iter()
-        .map(|(unit, names)| format!("{unit} ({names})"))
-        .collect();
-    said.join(", ")
+        .any(|program| program.units != program.instructions)
+    {
+        said += "\nof c to f: what a round takes, 8 of them and a branch, divided by 8";
+    }
+    said
 }
 
 pub fn print_times(timed: &[Timed]) {

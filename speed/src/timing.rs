@@ -7,7 +7,7 @@ use crate::programs::Program;
 use std::time::Duration;
 
 /// What a measurement lasts at least, about; Hercules' includes what is not the program.
-const LONG_ENOUGH: Duration = Duration::from_millis(60);
+const LONG_ENOUGH: Duration = Duration::from_millis(80);
 const LONG_ENOUGH_FOR_HERCULES: Duration = Duration::from_millis(120);
 /// Hercules' short runs, whose time is taken off that of its long ones.
 const FEW: u32 = 1;
