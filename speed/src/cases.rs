@@ -74,15 +74,17 @@ pub fn case(number: u64) -> Case {
 /// One thing that number 6 is for.
 fn spoil(dice: &mut Dice, case: &mut Case) {
     let machine = &mut case.machine;
-    match dice.below(9) {
+    match dice.below(8) {
         0 => machine.counter |= 0x100_0000,
         1 => machine.code = 4,
         2 => machine.mask = 16,
         3 => machine.map.truncate(511),
         4 => machine.map.push(0),
         5 => machine.registers.truncate(15),
-        6 => machine.memory.truncate(PAGE - 1),
-        7 => machine.memory.resize(65 * PAGE, 0),
+        6 => {
+            let bytes = dice.pick(&[0, 2048, PAGE - 1, PAGE + 2, PAGE + 2048, 65 * PAGE]);
+            machine.memory.resize(bytes, 0);
+        }
         _ => case.budget = Some(BUDGET + 1),
     }
 }
@@ -133,8 +135,8 @@ fn address(dice: &mut Dice) -> u32 {
 
 fn content(dice: &mut Dice) -> u32 {
     match dice.below(8) {
-        0 => dice.pick(&EDGE_WORDS),
-        1 => dice.roll() as u32,
+        0 | 1 => dice.pick(&EDGE_WORDS),
+        2 if dice.once_in(2) => dice.roll() as u32,
         2 => address(dice) | dice.below(256) << 24,
         _ => address(dice),
     }
@@ -179,6 +181,8 @@ fn instruction(dice: &mut Dice) -> [u8; 6] {
     let mut code = [0; 6];
     code[0] = match dice.below(20) {
         0 => dice.roll() as u8,
+        1 => 0xD2,
+        2 => 0xD5,
         _ => dice.pick(&SET),
     };
     code[1] = match code[0] >> 6 {
