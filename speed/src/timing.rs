@@ -6,9 +6,9 @@ use crate::hercules::Hercules;
 use crate::programs::Program;
 use std::time::Duration;
 
-/// What a measurement lasts at least, about; Hercules' includes what is not the program.
+/// What a measurement lasts at least, about. Hercules' are longer: what is taken off again is not always the same.
 const LONG_ENOUGH: Duration = Duration::from_millis(80);
-const LONG_ENOUGH_FOR_HERCULES: Duration = Duration::from_millis(120);
+const LONG_ENOUGH_FOR_HERCULES: Duration = Duration::from_millis(200);
 /// Hercules' short runs, whose time is taken off that of its long ones.
 const FEW: u32 = 1;
 
