@@ -7,12 +7,10 @@
 //!
 //! where FOLDER is for its files, PROGRAMS are letters, and WITHOUT says why there is no Hercules, or is empty.
 
-// How the witness starts Hercules and talks to it.
-#[path = "../../witness/src/bounded.rs"]
+// How the witness starts other programs; not all of it is needed here.
 #[allow(dead_code)]
+#[path = "../../witness/src/bounded.rs"]
 mod bounded;
-#[path = "../../witness/src/hercules.rs"]
-mod talk;
 
 mod cases;
 mod check;
@@ -27,6 +25,7 @@ mod ordinary;
 mod programs;
 mod proved;
 mod table;
+mod talk;
 mod timing;
 
 use engine::ENGINES;
