@@ -1,0 +1,99 @@
+//! The programs in Hercules: storage with the program's bytes at the same addresses, and a few instructions before and after.
+
+use crate::clock;
+use crate::machine::{Machine, PAGE};
+use crate::programs::{from_hex, Program, PAGES};
+use crate::talk;
+use std::path::PathBuf;
+use std::time::Duration;
+
+pub struct Hercules {
+    pub folder: PathBuf,
+    pub version: String,
+}
+
+/// An address and what stands there, in S/370 basic control mode without translation.
+const AROUND: [(usize, &str); 5] = [
+    // The PSW for a restart: to 200.
+    (0x000, "0000000000000200"),
+    // The PSW for a program interruption, by which every program ends: to 300.
+    (0x068, "0000000000000300"),
+    // LM 0,15,400; BC 15,0(0,12)
+    (0x200, "980F0400 47F0C000"),
+    // STM 0,15,440; LPSW 480
+    (0x300, "900F0440 82000480"),
+    // The last PSW: a disabled wait.
+    (0x480, "0002000000000000"),
+];
+const REGISTERS: usize = 0x400;
+const REGISTERS_AFTER: usize = 0x440;
+const OLD_PSW: usize = 0x28;
+const STORAGE: usize = 0x6000;
+/// The interruption for an operation that there is not.
+const OPERATION: u8 = 1;
+
+fn put(storage: &mut [u8], at: usize, bytes: &[u8]) {
+    storage[at..at + bytes.len()].copy_from_slice(bytes);
+}
+
+fn storage(machine: &Machine) -> Vec<u8> {
+    let mut storage = vec![0; STORAGE];
+    for (at, text) in AROUND {
+        put(&mut storage, at, &from_hex(text));
+    }
+    for (i, word) in machine.registers.iter().enumerate() {
+        put(&mut storage, REGISTERS + 4 * i, &word.to_be_bytes());
+    }
+    for (page, frame) in PAGES {
+        let bytes = &machine.memory[frame * PAGE..][..PAGE];
+        put(&mut storage, page * PAGE, bytes);
+    }
+    storage
+}
+
+/// What differs first between storage at the end and a machine, if anything does.
+fn difference(storage: &[u8], machine: &Machine) -> Option<String> {
+    let psw = &storage[OLD_PSW..OLD_PSW + 8];
+    let end = u32::from_be_bytes([0, psw[5], psw[6], psw[7]]) - 2 * u32::from(psw[4] >> 6);
+    if psw[3] != OPERATION || end != machine.counter {
+        return Some(format!("interruption {} at {end:06X}", psw[3]));
+    }
+    if u32::from(psw[4] >> 4 & 3) != machine.code {
+        return Some("another condition code".to_string());
+    }
+    for (i, word) in machine.registers.iter().enumerate() {
+        if storage[REGISTERS_AFTER + 4 * i..][..4] != word.to_be_bytes() {
+            return Some(format!("register {i} differs"));
+        }
+    }
+    let other = |&&(page, frame): &&(usize, usize)| {
+        storage[page * PAGE..][..PAGE] != machine.memory[frame * PAGE..][..PAGE]
+    };
+    PAGES
+        .iter()
+        .find(other)
+        .map(|(page, _)| format!("a byte of page {page} differs"))
+}
+
+impl Hercules {
+    /// Starts it once, with the shortest run there is.
+    pub fn new(folder: PathBuf, program: &Program) -> Result<Hercules, String> {
+        let (_, version) = talk::run(&folder, &storage(&program.machine(1)))?;
+        Ok(Hercules { folder, version })
+    }
+
+    pub fn check(&self, program: &Program, rounds: u32, wanted: &Machine) -> Result<(), String> {
+        let (after, _) = talk::run(&self.folder, &storage(&program.machine(rounds)))?;
+        if after.len() != STORAGE {
+            return Err(format!("{} bytes saved", after.len()));
+        }
+        difference(&after, wanted).map_or(Ok(()), Err)
+    }
+
+    /// The processor time of a whole process that does so many rounds.
+    pub fn time(&self, program: &Program, rounds: u32) -> Result<Duration, String> {
+        let before = clock::children();
+        talk::run(&self.folder, &storage(&program.machine(rounds)))?;
+        Ok(clock::children() - before)
+    }
+}

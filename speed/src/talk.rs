@@ -1,0 +1,129 @@
+//! Talking to Hercules, which has no screen here: commands go to its standard input, messages come from its standard output.
+
+use crate::bounded::{self, Bounded};
+use std::fs;
+use std::io::{BufRead, BufReader, Write};
+use std::path::Path;
+use std::process::{ChildStdin, ChildStdout, Stdio};
+use std::sync::mpsc::{channel, Receiver};
+use std::thread;
+use std::time::{Duration, Instant};
+
+/// Its processor is left at the priority of other programs: at its own, it would hardly get on beside them.
+const CONFIGURATION: &str = "CPUSERIAL 000001
+CPUMODEL 3033
+MAINSIZE 16
+NUMCPU 1
+CPUPRIO 0
+ARCHMODE S/370
+OSTAILOR QUIET
+000E 1403 /dev/null
+";
+
+const PATIENCE: Duration = Duration::from_secs(120);
+const VERSION: &str = "Hercules Version ";
+const LOADED: &str = "HHCPN113I";
+const WAITS: &str = "HHCCP011I";
+const SAVED: &str = "HHCPN170I";
+
+struct Talk {
+    process: Bounded,
+    input: ChildStdin,
+    messages: Receiver<String>,
+    version: String,
+}
+
+fn listen(output: ChildStdout) -> Receiver<String> {
+    let (sender, messages) = channel();
+    thread::spawn(move || {
+        for line in BufReader::new(output).split(b'\n').map_while(Result::ok) {
+            let line = String::from_utf8_lossy(&line).into_owned();
+            if sender.send(line).is_err() {
+                break;
+            }
+        }
+    });
+    messages
+}
+
+fn begin(folder: &Path) -> Result<Talk, String> {
+    let configuration = folder.join("hercules.cnf");
+    fs::write(&configuration, CONFIGURATION).map_err(|error| error.to_string())?;
+    let mut command = bounded::command();
+    command
+        .args(["hercules", "-d", "-f"])
+        .arg(&configuration)
+        .arg("EXTERNALGUI")
+        .env("HERCULES_RC", folder.join("no-such-file"))
+        .stdin(Stdio::piped())
+        .stdout(Stdio::piped())
+        .stderr(Stdio::null());
+    let mut process = bounded::start(command)?;
+    let pipes = (process.child.stdin.take(), process.child.stdout.take());
+    let (Some(input), Some(output)) = pipes else {
+        return Err("no pipes to Hercules".to_string());
+    };
+    Ok(Talk {
+        process,
+        input,
+        messages: listen(output),
+        version: String::new(),
+    })
+}
+
+impl Talk {
+    fn say(&mut self, command: &str) -> Result<(), String> {
+        writeln!(self.input, "{command}")
+            .and_then(|()| self.input.flush())
+            .map_err(|error| format!("Hercules takes no command: {error}"))
+    }
+
+    /// Waits for a message with one of these parts, and answers which.
+    fn hear(&mut self, parts: &[&str]) -> Result<usize, String> {
+        let end = Instant::now() + PATIENCE;
+        loop {
+            let left = end.saturating_duration_since(Instant::now());
+            let message = self
+                .messages
+                .recv_timeout(left)
+                .map_err(|_| format!("Hercules did not say {}", parts.join(" or ")))?;
+            if let Some(version) = message.strip_prefix(VERSION) {
+                self.version = version.to_string();
+            }
+            if let Some(which) = parts.iter().position(|part| message.contains(part)) {
+                return Ok(which);
+            }
+        }
+    }
+
+    /// A command for a stopped processor, given again until the processor has stopped and `done` is heard.
+    fn ask(&mut self, command: &str, done: &str) -> Result<(), String> {
+        let end = Instant::now() + PATIENCE;
+        while Instant::now() < end {
+            self.say(command)?;
+            if self.hear(&[done, "CPU not stopped"])? == 0 {
+                return Ok(());
+            }
+            thread::sleep(Duration::from_millis(10));
+        }
+        Err(format!("Hercules does not stop for {command}"))
+    }
+}
+
+/// Loads storage at location 0, restarts, and waits for the disabled wait at the end; answers what storage holds then, and the version.
+pub fn run(folder: &Path, storage: &[u8]) -> Result<(Vec<u8>, String), String> {
+    let (before, after) = (folder.join("core"), folder.join("core-after"));
+    // Hercules saves to no file that is there already.
+    let _ = fs::remove_file(&after);
+    fs::write(&before, storage).map_err(|error| error.to_string())?;
+    let mut talk = begin(folder)?;
+    talk.ask(&format!("loadcore {} 0", before.display()), LOADED)?;
+    talk.say("restart")?;
+    talk.hear(&[WAITS])?;
+    let last = storage.len() - 1;
+    talk.ask(&format!("savecore {} 0 {last:X}", after.display()), SAVED)?;
+    talk.say("quit")?;
+    talk.process.wait(PATIENCE)?;
+    let held = fs::read(&after).map_err(|error| error.to_string())?;
+    Ok((held, talk.version))
+}
