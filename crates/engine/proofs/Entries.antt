@@ -4,35 +4,44 @@ use mathlib.Core.Path.{_≡_, refl, sym, _∙_, ap}
 use mathlib.Core.Bool.{Bool, true, false}
 use mathlib.Core.List.{List, []}
 use borrow.Author.Tests.{le-leb, lt-leb}
-use Rattle.pages.specs.Framed.{framedOf}
+use lib.Dec.{eqb}
+use Rattle.words.specs.Pick.{pick}
+use Rattle.pages.specs.Framed.{Framed, framedOf}
 use Rattle.machine.specs.declared.Reply.{Reply}
-use Rattle.machine.specs.Run.{run}
+use Rattle.machine.specs.Prog.{Answer, finished, refused, interp}
+use Rattle.machine.specs.Run.{Result, one, afterStep, run}
+use Rattle.machine.specs.Store.{framed}
+use Rattle.machine.specs.Cpu.{Cpu}
 use Rattle.machine.specs.Step.{step}
 use Rattle.machine.specs.Machine.{given, outcome, proper, turnedAway, outcomeOf, opsFor, stepOutcome, runOutcome}
 use Rattle.actions.specs.declared.Now.{Now}
-use Rattle.actions.specs.declared.Out.{Out}
-use Rattle.actions.specs.declared.Out.the-variants.{Done, Stop}
-use Rattle.actions.specs.Told.{cpuOf, told, doing}
+use Rattle.actions.specs.Told.{cpuOf}
 use Rattle.engine.specs.declared.Ran.{Ran}
-use Rattle.engine.specs.Entry.{replyTo, ranReply, ranAs}
+use Rattle.engine.specs.Entry.{stepReply, ranReply, ranAs}
+
+-- a run of one, told as a step
+abbrev asStep : Result Cpu Framed → Result Cpu Framed
+asStep r =
+    record { stop = pick (eqb (r .count) 1) 0 (r .stop); place = r .place; count = r .count; cpu = r .cpu; held = r .held }
+
+one-run : (c : Cpu) (x : Answer Cpu Framed)
+    → asStep (afterStep c x (λ c′ s′. record { stop = 7; place = 0; count = 0; cpu = c′; held = s′ })) ≡ one c x
+one-run c (finished d s) = refl
+one-run c (refused n a s) = refl
 
 module _ (mem map regs : List ℕ) (pc code mask : ℕ) where
-  told-outcome : (out : Out) (c : Now) (mem′ map′ regs′ : List ℕ)
-      → outcome (replyTo c out) mem′ map′ regs′ ≡ outcomeOf (told out regs′ c (framedOf mem′ map′))
-  unfolding told
-  told-outcome (Done n) c mem′ map′ regs′ = refl
-  told-outcome (Stop k a) c mem′ map′ regs′ = refl
-
-  pub step-fine : (b : Bool) (r : Reply) (out : Out) (mem′ map′ regs′ : List ℕ) → b ≡ proper (given mem map regs pc code mask) → b ≡ true
-      → told out regs′ (record { pc = pc; code = code; mask = mask }) (framedOf mem′ map′)
-      ≡ doing step regs (record { pc = pc; code = code; mask = mask }) (framedOf mem map)
-      → r ≡ replyTo (record { pc = pc; code = code; mask = mask }) out
+  pub step-fine : (b : Bool) (r : Reply) (ran : Ran) (mem′ map′ regs′ : List ℕ) → b ≡ proper (given mem map regs pc code mask) → b ≡ true
+      → ranAs ran regs′ (framedOf mem′ map′)
+      ≡ run opsFor step 1 (cpuOf regs (record { pc = pc; code = code; mask = mask })) (framedOf mem map)
+      → r ≡ stepReply ran
       → outcome r mem′ map′ regs′ ≡ stepOutcome (given mem map regs pc code mask)
-  unfolding stepOutcome
-  step-fine b r out mem′ map′ regs′ eb p t er =
+  unfolding stepOutcome run
+  step-fine b r ran mem′ map′ regs′ eb p t er =
       ap (λ (x : Reply). outcome x mem′ map′ regs′) er
-      ∙ told-outcome out (record { pc = pc; code = code; mask = mask }) mem′ map′ regs′
-      ∙ ap outcomeOf t
+      ∙ ap (λ (x : Result Cpu Framed). outcomeOf (asStep x)) t
+      ∙ ap outcomeOf
+      (one-run (cpuOf regs (record { pc = pc; code = code; mask = mask }))
+      (interp framed (step (cpuOf regs (record { pc = pc; code = code; mask = mask }))) (framedOf mem map) (framedOf mem map)))
       ∙ rw (sym eb ∙ p)
 
   pub step-away : (b : Bool) (r : Reply) → b ≡ proper (given mem map regs pc code mask) → b ≡ false

@@ -3,7 +3,7 @@
 use Prim.Native.Nat.{ℕ, _+_, _%_}
 use mathlib.Core.List.{List}
 use mathlib.Core.Bool.{Bool}
-use lib.Dec.{ltb}
+use lib.Dec.{eqb, ltb}
 use lib.ListN.{length}
 use Rattle.words.specs.Pick.{pick}
 use Rattle.pages.specs.declared.Access.the-variants.{Fetch}
@@ -106,12 +106,17 @@ abbrev pub ranAs : Ran → List ℕ → Framed → Result Cpu Framed
 ranAs r regs s =
     record { stop = r .number; place = r .place; count = r .count; cpu = cpuOf regs (r .now); held = s }
 
--- a step's answer and a run's, in numbers
-abbrev pub replyTo : Now → Out → Reply
-replyTo c (Done n) =
-    record { number = 0; place = 0; count = 1; pc = n .pc; code = n .code; mask = n .mask }
-replyTo c (Stop k a) =
-    record { number = k; place = a; count = 0; pc = c .pc; code = c .code; mask = c .mask }
+-- the reply to a single step, made as a run of one
+abbrev pub stepReply : Ran → Reply
+stepReply r =
+    record {
+      number = pick (eqb (r .count) 1) 0 (r .number);
+      place = r .place;
+      count = r .count;
+      pc = r .now .pc;
+      code = r .now .code;
+      mask = r .now .mask;
+    }
 
 abbrev pub ranReply : Ran → Reply
 ranReply r =

@@ -1,12 +1,10 @@
 // Number 6 at the door, and replies in numbers.
 use crate::Ran;
-use actions::Now;
-use actions::Out;
 use machine::Reply;
 ghost use mathlib.Core.Path.{_≡_};
 ghost use mathlib.Core.List.{[]};
 ghost use Rattle.machine.specs.Machine.{given, proper, turnedAway};
-ghost use Rattle.engine.specs.Entry.{replyTo, ranReply};
+ghost use Rattle.engine.specs.Entry.{stepReply, ranReply};
 
 // Lists of the right size, and counter, code and mask in range.
 pub fn is_proper(mem: &[u8], map: &[u16], regs: &[u32], pc: u32, code: u32, mask: u32) -> bool
@@ -51,26 +49,18 @@ pub fn away(pc: u32, code: u32, mask: u32) -> Reply
     }
 }
 
-pub fn step_reply(c: Now, out: Out) -> Reply
-    ensures { λ r. ⌜ r ≡ replyTo c out ⌝ }
+// A step is a run of one: completed where it counts one.
+pub fn step_reply(r: Ran) -> Reply
+    ensures { λ q. ⌜ q ≡ stepReply r ⌝ }
 {
-    match out {
-        Out::Done(n) => Reply {
-            number: 0,
-            place: 0,
-            count: 1,
-            pc: n.pc,
-            code: n.code,
-            mask: n.mask,
-        },
-        Out::Stop(number, place) => Reply {
-            number: number,
-            place: place,
-            count: 0,
-            pc: c.pc,
-            code: c.code,
-            mask: c.mask,
-        },
+    let now = r.now;
+    Reply {
+        number: if r.count == 1 { 0 } else { r.number },
+        place: r.place,
+        count: r.count,
+        pc: now.pc,
+        code: now.code,
+        mask: now.mask,
     }
 }
 
