@@ -4,8 +4,8 @@ use mathlib.Core.Path.{_≡_, refl, sym, _∙_, ap}
 use mathlib.Core.Bool.{Bool, true, false}
 use mathlib.Core.List.{List, []}
 use borrow.Author.Tests.{le-leb, lt-leb}
-use lib.Dec.{eqb}
-use Rattle.words.specs.Pick.{pick}
+use lib.Dec.{eqb, leb}
+use Rattle.words.specs.Pick.{pick, both}
 use Rattle.pages.specs.Framed.{Framed, framedOf}
 use Rattle.machine.specs.declared.Reply.{Reply}
 use Rattle.machine.specs.Prog.{Answer, finished, refused, interp}
@@ -13,7 +13,7 @@ use Rattle.machine.specs.Run.{Result, one, afterStep, run}
 use Rattle.machine.specs.Store.{framed}
 use Rattle.machine.specs.Cpu.{Cpu}
 use Rattle.machine.specs.Step.{step}
-use Rattle.machine.specs.Machine.{given, outcome, proper, turnedAway, outcomeOf, opsFor, stepOutcome, runOutcome}
+use Rattle.machine.specs.Machine.{Outcome, given, outcome, proper, turnedAway, outcomeOf, opsFor, stepOutcome, runOutcome}
 use Rattle.actions.specs.declared.Now.{Now}
 use Rattle.actions.specs.Told.{cpuOf}
 use Rattle.engine.specs.declared.Ran.{Ran}
@@ -30,24 +30,24 @@ one-run c (finished d s) = refl
 one-run c (refused n a s) = refl
 
 module _ (mem map regs : List ℕ) (pc code mask : ℕ) where
-  pub step-fine : (b : Bool) (r : Reply) (ran : Ran) (mem′ map′ regs′ : List ℕ) → b ≡ proper (given mem map regs pc code mask) → b ≡ true
-      → ranAs ran regs′ (framedOf mem′ map′)
-      ≡ run opsFor step 1 (cpuOf regs (record { pc = pc; code = code; mask = mask })) (framedOf mem map)
-      → r ≡ stepReply ran
-      → outcome r mem′ map′ regs′ ≡ stepOutcome (given mem map regs pc code mask)
-  unfolding stepOutcome run
-  step-fine b r ran mem′ map′ regs′ eb p t er =
-      ap (λ (x : Reply). outcome x mem′ map′ regs′) er
-      ∙ ap (λ (x : Result Cpu Framed). outcomeOf (asStep x)) t
-      ∙ ap outcomeOf
-      (one-run (cpuOf regs (record { pc = pc; code = code; mask = mask }))
-      (interp framed (step (cpuOf regs (record { pc = pc; code = code; mask = mask }))) (framedOf mem map) (framedOf mem map)))
-      ∙ rw (sym eb ∙ p)
+  -- a step is a run of one
+  pub step-is : (r q : Reply) (mem′ map′ regs′ : List ℕ) → outcome r mem′ map′ regs′ ≡ runOutcome 1 (given mem map regs pc code mask) → q ≡ stepReply r
+      → outcome q mem′ map′ regs′ ≡ stepOutcome (given mem map regs pc code mask)
+  unfolding stepOutcome runOutcome run
+  step-is r q mem′ map′ regs′ t eq =
+      ap (λ (x : Reply). outcome x mem′ map′ regs′) eq ∙ ap asOne t ∙ go (proper (given mem map regs pc code mask))
+    where
+      asOne : Outcome → Outcome
+      asOne o = outcome (stepReply (o .reply)) (o .mem) (o .map) (o .regs)
 
-  pub step-away : (b : Bool) (r : Reply) → b ≡ proper (given mem map regs pc code mask) → b ≡ false
-      → r ≡ turnedAway (given [] [] [] pc code mask) .reply → outcome r mem map regs ≡ stepOutcome (given mem map regs pc code mask)
-  unfolding stepOutcome
-  step-away b r eb p er = rw (sym eb ∙ p) (ap (λ (x : Reply). outcome x mem map regs) er)
+      x : Answer Cpu Framed
+      x = interp framed (step (cpuOf regs (record { pc = pc; code = code; mask = mask }))) (framedOf mem map) (framedOf mem map)
+
+      go : (b : Bool)
+          → asOne (pick (both b (leb 1 65535)) (outcomeOf (afterStep (cpuOf regs (record { pc = pc; code = code; mask = mask })) x (λ c′ s′. record { stop = 7; place = 0; count = 0; cpu = c′; held = s′ }))) (turnedAway (given mem map regs pc code mask)))
+          ≡ pick b (outcomeOf (one (cpuOf regs (record { pc = pc; code = code; mask = mask })) x)) (turnedAway (given mem map regs pc code mask))
+      go true = ap outcomeOf (one-run (cpuOf regs (record { pc = pc; code = code; mask = mask })) x)
+      go false = refl
 
   module _ (budget : ℕ) where
     pub run-fine : (b : Bool) (q : Reply) (ran : Ran) (mem′ map′ regs′ : List ℕ) → b ≡ proper (given mem map regs pc code mask) → b ≡ true → budget ≤ 65535

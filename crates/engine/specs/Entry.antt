@@ -106,16 +106,16 @@ abbrev pub ranAs : Ran → List ℕ → Framed → Result Cpu Framed
 ranAs r regs s =
     record { stop = r .number; place = r .place; count = r .count; cpu = cpuOf regs (r .now); held = s }
 
--- the reply to a single step, made as a run of one
-abbrev pub stepReply : Ran → Reply
+-- the reply to a single step, made as a run of one: completed where it counts one
+abbrev pub stepReply : Reply → Reply
 stepReply r =
     record {
       number = pick (eqb (r .count) 1) 0 (r .number);
       place = r .place;
       count = r .count;
-      pc = r .now .pc;
-      code = r .now .code;
-      mask = r .now .mask;
+      pc = r .pc;
+      code = r .code;
+      mask = r .mask;
     }
 
 abbrev pub ranReply : Ran → Reply

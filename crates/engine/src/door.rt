@@ -49,18 +49,17 @@ pub fn away(pc: u32, code: u32, mask: u32) -> Reply
     }
 }
 
-// A step is a run of one: completed where it counts one.
-pub fn step_reply(r: Ran) -> Reply
+// A step's reply is that of a run of one, but 0 where it counts one.
+pub fn step_reply(r: Reply) -> Reply
     ensures { λ q. ⌜ q ≡ stepReply r ⌝ }
 {
-    let now = r.now;
     Reply {
         number: if r.count == 1 { 0 } else { r.number },
         place: r.place,
         count: r.count,
-        pc: now.pc,
-        code: now.code,
-        mask: now.mask,
+        pc: r.pc,
+        code: r.code,
+        mask: r.mask,
     }
 }
 

@@ -22,8 +22,8 @@ pub struct Ran {
     pub now: Now,
 }
 
-// One step from this state: number 0 and count 1 where it completed. It is a run of one, so that the compiler sees one use of
-// `step_once` and puts it into the loop (measured: with a second use a run takes three times as long).
+// One step from this state: number 0 and count 1 where it completed. It is a run of one, so that the loop and all below it have one
+// user, and the compiler puts them together (measured: with a second one a run takes three times as long).
 pub fn step(
     mem: &mut [u8],
     map: &mut [u16],
@@ -34,16 +34,8 @@ pub fn step(
 ) -> Reply
     ensures { λ r. ⌜ outcome r (now (mem .exit)) (now (map .exit)) (now (regs .exit)) ≡ stepOutcome (given (now (mem .entry)) (now (map .entry)) (now (regs .entry)) pc code mask) ⌝ }
 {
-    if door::is_proper(mem, map, regs, pc, code, mask) {
-        let c = Now {
-            pc: pc,
-            code: code,
-            mask: mask,
-        };
-        let ran = stepping::run_steps(regs, mem, map, c, 1);
-        return door::step_reply(ran);
-    }
-    door::away(pc, code, mask)
+    let ran = run(mem, map, regs, pc, code, mask, 1);
+    door::step_reply(ran)
 }
 
 // At most `budget` steps, up to the first refusal: 7 where the budget is spent.
