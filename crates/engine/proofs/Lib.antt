@@ -6,3 +6,4 @@ mod Lengths
 mod Runs
 mod Entries
 mod Only
+mod Windows

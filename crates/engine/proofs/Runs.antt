@@ -38,7 +38,7 @@ adds-more n r =
     moved = omega arith
 
 -- what a step's answer says of the definitions' answer
-was-done : (c : Cpu) (x : Answer Cpu Framed) (c′ : Cpu) (s′ : Framed)
+pub was-done : (c : Cpu) (x : Answer Cpu Framed) (c′ : Cpu) (s′ : Framed)
     → _≡_ {A = Result Cpu Framed} (record { stop = 0; place = 0; count = 1; cpu = c′; held = s′ }) (one c x) → x ≡ finished c′ s′
 was-done c (finished d t) c′ s′ e =
     ap (λ (y : Cpu). finished y t) (sym (ap (λ (r : Result Cpu Framed). r .cpu) e))

@@ -1,11 +1,14 @@
 -- For the engine's inner functions: an instruction's halfwords, what the action does with them, the marks that it sets where it completes,
 -- and the answers of a step and a run.
-use Prim.Native.Nat.{ℕ, _+_, _%_}
+use Prim.Native.Nat.{ℕ, _+_, _/_, _%_, _<_, _≤_}
+use mathlib.Core.Path.{_≡_}
 use mathlib.Core.List.{List}
-use mathlib.Core.Bool.{Bool}
-use lib.Dec.{eqb, ltb}
+use mathlib.Core.Bool.{Bool, true}
+use lib.Dec.{eqb, leb, ltb}
 use lib.ListN.{length}
-use Rattle.words.specs.Pick.{pick}
+use Rattle.words.specs.Pick.{pick, both}
+use Rattle.pages.specs.Word.{bitG, base, wordOf}
+use Rattle.pages.specs.Plain.{ordinary}
 use Rattle.pages.specs.declared.Access.the-variants.{Fetch}
 use Rattle.pages.specs.declared.Look.{Look}
 use Rattle.pages.specs.declared.Look.the-variants.{At, Refused}
@@ -33,6 +36,7 @@ use Rattle.actions.specs.Told.{cpuOf}
 use Rattle.engine.specs.declared.Text.{Text}
 use Rattle.engine.specs.declared.Text.the-variants as T
 use Rattle.engine.specs.declared.Ran.{Ran}
+use Rattle.engine.specs.declared.Window.{Window}
 
 -- the address n bytes past pc
 abbrev pub past : ℕ → ℕ → ℕ
@@ -128,3 +132,19 @@ ranReply r =
       code = r .now .code;
       mask = r .now .mask;
     }
+
+-- a page word in a window: ordinary, accessed, with the whole page in memory from b on
+pub record Held (b w size : ℕ) : Type 0 where
+  pub fair : ordinary w Fetch ≡ true
+  pub seen : bitG w ≡ 1
+  pub there : b ≡ base w
+  pub room : b + 4096 ≤ size
+  pub small : b < 266240
+
+-- a window is shut, or holds of this map and a memory of this size
+abbrev pub Ready : Window → List ℕ → ℕ → Type 0
+Ready w map size = w .page < 1048576 → (w .page < 512) × Held (w .base) (wordOf map (w .page)) size
+
+-- whether six bytes from pc on lie in the window
+abbrev pub inside : Window → ℕ → Bool
+inside w pc = both (eqb (pc / 4096) (w .page)) (leb (pc % 4096) 4090)

@@ -2,6 +2,7 @@
 pub mod door;
 pub mod formats;
 pub mod stepping;
+pub mod fetching;
 
 use actions::Now;
 use machine::Reply;
@@ -12,6 +13,13 @@ ghost use Rattle.machine.specs.Machine.{given, outcome, stepOutcome, runOutcome
 pub enum Text {
     Whole(u16, u16, u16),
     Stop(u32, u32),
+}
+
+// Where a run fetches from without looking up again: an ordinary page that has its mark, and where it begins in memory. Page numbers of
+// 1,048,576 and more stand for no page.
+pub struct Window {
+    pub page: u32,
+    pub base: usize,
 }
 
 // How a run ended.

@@ -1,7 +1,9 @@
 // One step, and a run of steps.
 use crate::Ran;
 use crate::Text;
+use crate::Window;
 use crate::formats;
+use crate::fetching;
 use actions::Now;
 use actions::Out;
 ghost use mathlib.Core.Path.{_≡_};
@@ -11,20 +13,26 @@ ghost use Rattle.machine.specs.Run.{run};
 ghost use Rattle.machine.specs.Step.{step};
 ghost use Rattle.machine.specs.Machine.{opsFor};
 ghost use Rattle.actions.specs.Told.{cpuOf, told, doing};
-ghost use Rattle.engine.specs.Entry.{ranAs};
+ghost use lib.ListN.{length};
+ghost use Rattle.engine.specs.Entry.{Ready, ranAs};
 
-pub fn step_once(regs: &mut [u32], mem: &mut [u8], map: &mut [u16], c: Now) -> Out
+// One step. In the window the page has its mark already.
+pub fn step_once(regs: &mut [u32], mem: &mut [u8], map: &mut [u16], c: Now, w: Window) -> Out
+    requires { ⌜ Ready w (now map) (length (now mem)) ⌝ }
     ensures { λ r. ⌜ told r (now (regs .exit)) c (framedOf (now (mem .exit)) (now (map .exit))) ≡ doing step (now (regs .entry)) c (framedOf (now (mem .entry)) (now (map .entry))) ⌝ }
 {
     let pc = c.pc;
     if pc % 2 == 1 {
         return Out::Stop(2, pc);
     }
-    let text = formats::text(mem, map, pc);
+    let text = fetching::text(mem, map, w, pc);
     match text {
         Text::Stop(number, place) => Out::Stop(number, place),
         Text::Whole(h1, h2, h3) => {
             let out = formats::finish(regs, mem, map, c, h1, h2, h3);
+            if fetching::is_inside(w, pc) {
+                return out;
+            }
             formats::mark(map, pc, h1, out);
             out
         }
@@ -37,8 +45,9 @@ pub fn run_steps(regs: &mut [u32], mem: &mut [u8], map: &mut [u16], c: Now, budg
 {
     let mut at = c;
     let mut count: u32 = 0;
+    let mut w = fetching::shut();
     while count < budget {
-        let out = step_once(regs, mem, map, at);
+        let out = step_once(regs, mem, map, at, w);
         match out {
             Out::Stop(number, place) => {
                 return Ran {
@@ -49,6 +58,7 @@ pub fn run_steps(regs: &mut [u32], mem: &mut [u8], map: &mut [u16], c: Now, budg
                 };
             }
             Out::Done(next) => {
+                w = fetching::follow(mem, map, w, at.pc);
                 at = next;
                 count = count + 1;
             }

@@ -1,0 +1,16 @@
+use borrow.Author.Tests.{eq-eqb, ne-eqb}
+use Rattle.engine.proofs.fetching.is_inside.Statement.{statement}
+use Rattle.engine.proofs.fetching.is_inside.Tie as tie
+use Rattle.engine.proofs.fetching.is_inside.Reads as reads
+use Rattle.engine.proofs.fetching.is_inside.Lts as lts
+
+-- src/fetching.rt:28:9
+returns : tie.Need-returns
+returns c = rw (eq-eqb _ _ (c .if1 .taken))
+
+-- src/fetching.rt:24:1
+returns-2 : tie.Need-returns-2
+returns-2 c = rw (ne-eqb _ _ (c .if1 .left))
+
+pub is-inside-spec : {M : Type 1} → statement M
+is-inside-spec = tie.close (tie.spec returns returns-2)

@@ -1,0 +1,51 @@
+use Rattle.engine.proofs.Windows.{open-ready, shut-ready}
+use mathlib.Core.Path.{refl}
+use borrow.Author.Needs.{needs}
+use Rattle.engine.proofs.fetching.open.Statement.{statement}
+use Rattle.engine.proofs.fetching.open.Tie as tie
+use Rattle.engine.proofs.fetching.open.Reads as reads
+use Rattle.engine.proofs.fetching.open.Lts as lts
+use Rattle.engine.proofs.fetching.is_seen.Reads as is-seen-reads
+use Rattle.engine.proofs.fetching.shut.Reads as shut-reads
+use Rattle.pages.proofs.is_plain.Reads as is-plain-reads
+use Rattle.pages.proofs.real_at.Reads as real-at-reads
+
+-- src/fetching.rt:49:17
+mul-first : tie.Need-mul-first
+mul-first c = search needs
+
+-- src/fetching.rt:50:8
+is-seen-requires : tie.Need-is-seen-requires
+is-seen-requires c κs = search needs
+
+-- src/fetching.rt:51:12
+is-plain-requires : tie.Need-is-plain-requires
+is-plain-requires c κs = search needs
+
+-- src/fetching.rt:54:23
+real-at-requires : tie.Need-real-at-requires
+real-at-requires c κs = search needs
+
+-- src/fetching.rt:52:13
+returns : tie.Need-returns
+returns c = open-ready _ _ _ _ _ _ _ refl (c .before .before .before .before .is-seen .ensures) (c .before .before .before .if1 .taken) (c .before .before .is-plain .ensures) (c .before .if2 .taken) ((c .real-at .ensures) .0) ((c .real-at .ensures) .1)
+
+-- src/fetching.rt:58:5
+shut-requires : tie.Need-shut-requires
+shut-requires c κs = search needs
+
+-- src/fetching.rt:45:1
+returns-2 : tie.Need-returns-2
+returns-2 c = shut-ready _ _ _ (c .shut .ensures)
+
+pub open-spec : {M : Type 1} → statement M
+open-spec =
+    tie.close
+    (tie.spec
+    mul-first
+    is-seen-requires
+    is-plain-requires
+    real-at-requires
+    returns
+    shut-requires
+    returns-2)

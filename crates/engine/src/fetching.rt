@@ -1,0 +1,85 @@
+// The window of a run: the code page that it fetches from, looked up once.
+use crate::Text;
+use crate::Window;
+use crate::formats;
+use pages::Access;
+ghost use mathlib.Core.Path.{_≡_};
+ghost use lib.Dec.{eqb};
+ghost use lib.ListN.{length};
+ghost use Rattle.pages.specs.Word.{bitG, wordOf};
+ghost use Rattle.pages.specs.Framed.{framedOf};
+ghost use Rattle.engine.specs.Entry.{Ready, inside, textOf};
+
+// No page.
+pub fn shut() -> Window
+    ensures { λ r. ⌜ r .page ≡ 4294967295 ⌝ }
+{
+    Window {
+        page: 4294967295,
+        base: 0,
+    }
+}
+
+// Whether six bytes from pc on lie in the window.
+pub fn is_inside(w: Window, pc: u32) -> bool
+    ensures { λ r. ⌜ r ≡ inside w pc ⌝ }
+{
+    if pc / 4096 == w.page {
+        return pc % 4096 <= 4090;
+    }
+    false
+}
+
+// Whether a page has the mark G.
+fn is_seen(map: &[u16], page: u32) -> bool
+    ensures { λ r. ⌜ r ≡ eqb (bitG (wordOf (now (map .entry)) page)) 1 ⌝ }
+{
+    let p = page as usize;
+    if p < map.len() {
+        return map[p] / 16384 % 2 == 1;
+    }
+    false
+}
+
+// The window for the page of pc, where it may have one.
+fn open(mem: &[u8], map: &[u16], pc: u32) -> Window
+    ensures { λ r. ⌜ Ready r (now (map .entry)) (length (now (mem .entry))) ⌝ }
+{
+    let page = pc / 4096;
+    let first = page * 4096;
+    if is_seen(map, page) {
+        if pages::is_plain(map, mem.len(), Access::Fetch, first, 4096) {
+            return Window {
+                page: page,
+                base: pages::real_at(map, first),
+            };
+        }
+    }
+    shut()
+}
+
+// The window after a step from pc.
+pub fn follow(mem: &[u8], map: &[u16], w: Window, pc: u32) -> Window
+    requires { ⌜ Ready w (now map) (length (now mem)) ⌝ }
+    ensures { λ r. ⌜ Ready r (now (map .entry)) (length (now (mem .entry))) ⌝ }
+{
+    if is_inside(w, pc) {
+        return w;
+    }
+    open(mem, map, pc)
+}
+
+// The halfwords from pc on.
+pub fn text(mem: &[u8], map: &[u16], w: Window, pc: u32) -> Text
+    requires { ⌜ Ready w (now map) (length (now mem)) ⌝ }
+    ensures { λ r. ⌜ r ≡ textOf (framedOf (now (mem .entry)) (now (map .entry))) pc ⌝ }
+{
+    if is_inside(w, pc) {
+        let r = w.base + (pc % 4096) as usize;
+        let h1 = fields::flat::half_of(mem, r);
+        let h2 = fields::flat::half_of(mem, r + 2);
+        let h3 = fields::flat::half_of(mem, r + 4);
+        return Text::Whole(h1, h2, h3);
+    }
+    formats::text(mem, map, pc)
+}
