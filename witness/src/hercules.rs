@@ -9,16 +9,18 @@ use std::sync::mpsc::{channel, Receiver};
 use std::thread;
 use std::time::{Duration, Instant};
 
+/// Its processor is left at the priority of other programs: at its own, it would hardly get on beside them.
 const CONFIGURATION: &str = "CPUSERIAL 000001
 CPUMODEL 3033
 MAINSIZE 16
 NUMCPU 1
+CPUPRIO 0
 ARCHMODE S/370
 OSTAILOR QUIET
 000E 1403 /dev/null
 ";
 
-const PATIENCE: Duration = Duration::from_secs(30);
+const PATIENCE: Duration = Duration::from_secs(120);
 
 struct Talk {
     process: Bounded,
