@@ -19,7 +19,11 @@ use Rattle.machine.specs.Store.{framed}
 use Rattle.machine.specs.Cpu.{Cpu, reg, withReg, withRes, onward, ahead}
 use Rattle.machine.specs.Rs.{fills, spills, nextReg, nextWord}
 use Rattle.actions.specs.Multiple.{filled, spilled}
+use Rattle.machine.specs.Rr.{rr}
 use Rattle.machine.specs.Rx.{widthOf, taken}
+use Rattle.code.specs.declared.RrAction.{RrAction}
+use Rattle.code.specs.declared.RrFields.{RrFields}
+use Rattle.code.specs.Formats.{rrOf}
 use Rattle.words.specs.declared.Res.{Res}
 use Rattle.code.specs.declared.Operand.{Operand}
 use Rattle.code.specs.declared.Operand.the-variants.{ByteInserted}
@@ -211,3 +215,7 @@ take-room op o e r n h = rw e at h
 
 pub take-byte-room : (op : Operand) → op ≡ ByteInserted → (r n : ℕ) → r + bytesOf (widthOf op) ≤ n → r < n
 take-byte-room op e r n h = let k : r + 1 ≤ n = rw e at h in omega arith
+
+-- the fields of an RR instruction, split where they are used
+pub rr-split : (x : RrAction) (f : RrFields) (h : ℕ) (c : Cpu) (p : Prog Cpu) → f ≡ rrOf h → p ≡ rr x f c → p ≡ rr x (rrOf h) c
+rr-split x f h c p e k = k ∙ ap (λ (g : RrFields). rr x g c) e

@@ -1,19 +1,20 @@
-// The RR format: no storage.
+// The RR format: no storage. The fields are split where they are used: a struct of two bytes that is handed on is carried as one number.
 use crate::Now;
 use crate::branches;
 use crate::registers;
 use code::Branch;
 use code::RrAction;
-use code::RrFields;
 use words::Alu;
 ghost use mathlib.Core.Path.{_≡_};
 ghost use Rattle.machine.specs.Prog.{done};
+ghost use Rattle.code.specs.Formats.{rrOf};
 ghost use Rattle.machine.specs.Rr.{rr};
 ghost use Rattle.actions.specs.Told.{cpuOf};
 
-fn combine(regs: &mut [u32], c: Now, op: Alu, f: RrFields) -> Now
-    ensures { λ n. ⌜ done (cpuOf (now (regs .exit)) n) ≡ rr (RrAction.Registers op) f (cpuOf (now (regs .entry)) c) ⌝ }
+fn combine(regs: &mut [u32], c: Now, op: Alu, h1: u16) -> Now
+    ensures { λ n. ⌜ done (cpuOf (now (regs .exit)) n) ≡ rr (RrAction.Registers op) (rrOf h1) (cpuOf (now (regs .entry)) c) ⌝ }
 {
+    let f = code::split_rr(h1);
     let a = registers::reg(regs, f.r1);
     let b = registers::reg(regs, f.r2);
     let result = words::combine(op, a, b, c.code);
@@ -26,18 +27,19 @@ fn combine(regs: &mut [u32], c: Now, op: Alu, f: RrFields) -> Now
     }
 }
 
-fn branch(regs: &mut [u32], c: Now, kind: Branch, f: RrFields) -> Now
-    ensures { λ n. ⌜ done (cpuOf (now (regs .exit)) n) ≡ rr (RrAction.RegisterBranch kind) f (cpuOf (now (regs .entry)) c) ⌝ }
+fn branch(regs: &mut [u32], c: Now, kind: Branch, h1: u16) -> Now
+    ensures { λ n. ⌜ done (cpuOf (now (regs .exit)) n) ≡ rr (RrAction.RegisterBranch kind) (rrOf h1) (cpuOf (now (regs .entry)) c) ⌝ }
 {
+    let f = code::split_rr(h1);
     let to = registers::reg(regs, f.r2) % 16777216;
     branches::take(regs, c, kind, 2, f.r1, to, 0 < f.r2)
 }
 
-pub fn execute(regs: &mut [u32], c: Now, x: RrAction, f: RrFields) -> Now
-    ensures { λ n. ⌜ done (cpuOf (now (regs .exit)) n) ≡ rr x f (cpuOf (now (regs .entry)) c) ⌝ }
+pub fn execute(regs: &mut [u32], c: Now, x: RrAction, h1: u16) -> Now
+    ensures { λ n. ⌜ done (cpuOf (now (regs .exit)) n) ≡ rr x (rrOf h1) (cpuOf (now (regs .entry)) c) ⌝ }
 {
     match x {
-        RrAction::Registers(op) => combine(regs, c, op, f),
-        RrAction::RegisterBranch(kind) => branch(regs, c, kind, f),
+        RrAction::Registers(op) => combine(regs, c, op, h1),
+        RrAction::RegisterBranch(kind) => branch(regs, c, kind, h1),
     }
 }

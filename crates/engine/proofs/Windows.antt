@@ -1,5 +1,5 @@
 -- The window: what holds of it every step keeps, and in it the text needs no look-up and the page no mark.
-use Prim.Native.Nat.{ℕ, zero, suc, _+_, _*_, _/_, _%_, _<_, _≤_}
+use Prim.Native.Nat.{ℕ, zero, suc, _+_, _-_, _*_, _/_, _%_, _<_, _≤_}
 use native.Mathlib.Omega.{arith}
 use native.Mathlib.Decide.{ℕ-discrete, decLt}
 use mathlib.Core.Path.{_≡_, refl, sym, _∙_, ap, subst}
@@ -127,7 +127,7 @@ module _ (w : Window) (mem map : List ℕ) (ready : Ready w map (length mem)) (r
       → told out regs′ c (framedOf mem′ map′) ≡ doing p regs c (framedOf mem map) → out ≡ Done n → Ready w map′ (length mem)
   unfolding told
   ready-done p out n regs′ mem′ map′ t o =
-      λ l. (ready l .0, kept-by (λ (x : ℕ). Held (w .base) x (length mem)) (held-accessed (w .base) (length mem)) (held-written (w .base) (length mem)) (w .page) (p (cpuOf regs c)) (framedOf mem map) (framedOf mem map) (cpuOf regs′ n) (framedOf mem′ map′) ended (ready l .1))
+      λ l. (ready l .0, ready l .1, ready l .2, kept-by (λ (x : ℕ). Held (w .base) x (length mem)) (held-accessed (w .base) (length mem)) (held-written (w .base) (length mem)) (pageOf (w .first)) (p (cpuOf regs c)) (framedOf mem map) (framedOf mem map) (cpuOf regs′ n) (framedOf mem′ map′) ended (ready l .3))
     where
       ended : interp framed (p (cpuOf regs c)) (framedOf mem map) (framedOf mem map) ≡ finished (cpuOf regs′ n) (framedOf mem′ map′)
       ended =
@@ -138,33 +138,45 @@ module _ (w : Window) (mem map : List ℕ) (ready : Ready w map (length mem)) (r
       → told out regs′ c (framedOf mem′ map′) ≡ doing step regs c (framedOf mem map) → out ≡ Done n → length mem′ ≡ length mem → Ready w map′ (length mem′)
   ready-after out n regs′ mem′ map′ t o e =
       let r : Ready w map′ (length mem) = ready-done step out n regs′ mem′ map′ t o in
-      λ l. (r l .0, subst (λ (x : ℕ). Held (w .base) (wordOf map′ (w .page)) x) (sym e) (r l .1))
+      λ l. (r l .0, r l .1, r l .2, subst (λ (x : ℕ). Held (w .base) (wordOf map′ (pageOf (w .first))) x) (sym e) (r l .3))
 
 -- in the window
-module _ (w : Window) (mem map : List ℕ) (ready : Ready w map (length mem)) (pc : ℕ) (fits : pc < 4294967296) (b : Bool) (eb : b ≡ inside w pc) (t : b ≡ true) where
-  on-page : pc / 4096 ≡ w .page
-  on-page = eqb-true (pc / 4096) (w .page) (left-of (eqb (pc / 4096) (w .page)) (leb (pc % 4096) 4090) (sym eb ∙ t))
+module _ (w : Window) (mem map : List ℕ) (ready : Ready w map (length mem)) (pc : ℕ) (b : Bool) (eb : b ≡ inside w pc) (t : b ≡ true) where
+  pub not-before : w .first ≤ pc
+  not-before = leb-true (w .first) pc (left-of (leb (w .first) pc) (ltb (pc - w .first) (w .len)) (sym eb ∙ t))
 
-  pub six-left : pc % 4096 ≤ 4090
-  six-left = leb-true (pc % 4096) 4090 (right-of (eqb (pc / 4096) (w .page)) (leb (pc % 4096) 4090) (sym eb ∙ t))
+  not-past : pc - w .first < w .len
+  not-past = ltb-true (pc - w .first) (w .len) (right-of (leb (w .first) pc) (ltb (pc - w .first) (w .len)) (sym eb ∙ t))
 
-  shown : w .page < 1048576
-  shown = omega (arith, on-page)
+  open-now : 0 < w .len
+  open-now = omega (arith, not-past)
 
-  pub window-low : pc < 16777216
-  window-low = omega (arith, on-page, ready shown .0)
+  beyond-first : pc % 4096 ≡ pc - w .first
+  beyond-first = omega (arith, not-before, not-past, ready open-now .1, ready open-now .2)
+
+  on-page : pc / 4096 ≡ w .first / 4096
+  on-page = omega (arith, not-before, not-past, ready open-now .1, ready open-now .2)
+
+  six-left : pc % 4096 ≤ 4090
+  six-left = omega (arith, beyond-first, not-past, ready open-now .2)
 
   below : pc < 2097152
-  below = omega (arith, on-page, ready shown .0)
+  below = omega (arith, on-page, ready open-now .0)
 
   held : Held (w .base) (wordOf map (pageOf pc)) (length mem)
   held =
-      let p : w .page ≡ pageOf pc = unfold pageOf in sym on-page in
-      subst (λ (x : ℕ). Held (w .base) (wordOf map x) (length mem)) p (ready shown .1)
+      let p : pageOf (w .first) ≡ pageOf pc = unfold pageOf in sym on-page in
+      subst (λ (x : ℕ). Held (w .base) (wordOf map x) (length mem)) p (ready open-now .3)
 
-  pub window-real : (r : ℕ) → r ≡ w .base + pc % 4096 → r ≡ realOf map pc
+  pub window-room : pc - w .first < 4091
+  window-room = omega (arith, not-past, ready open-now .2)
+
+  real-there : w .base + pc % 4096 ≡ realOf map pc
   unfolding realOf real dispOf
-  window-real r e = e ∙ ap (λ (x : ℕ). x + pc % 4096) (held .there)
+  real-there = ap (λ (x : ℕ). x + pc % 4096) (held .there)
+
+  pub window-real : (r : ℕ) → r ≡ w .base + (pc - w .first) → r ≡ realOf map pc
+  window-real r e = e ∙ ap (λ (x : ℕ). w .base + x) (sym beyond-first) ∙ real-there
 
   pub window-small : w .base < 266240
   window-small = held .small
@@ -172,7 +184,7 @@ module _ (w : Window) (mem map : List ℕ) (ready : Ready w map (length mem)) (p
   pub window-plain : true ≡ plain map (length mem) Fetch pc 6
   unfolding plain
   window-plain =
-      let i : realOf map pc + 6 ≤ length mem = (let k : w .base + pc % 4096 ≡ realOf map pc = window-real (w .base + pc % 4096) refl in omega (arith, held .room, six-left)) in
+      let i : realOf map pc + 6 ≤ length mem = omega (arith, real-there, held .room, six-left) in
       rw (lt-ltb pc 2097152 below, le-leb (pc % 4096 + 6) 4096 (omega (arith, six-left)), held .fair, le-leb (realOf map pc + 6) (length mem) i)
 
   -- the page has its mark
@@ -183,19 +195,19 @@ module _ (w : Window) (mem map : List ℕ) (ready : Ready w map (length mem)) (p
       go : (o : Out) → out ≡ o → map′ ≡ markedText o map′ pc h1
       go (Stop k a) e = refl
       go (Done n) e =
-          let r = ready-done w mem map ready regs c (whole h1 h2 h3) out n regs′ mem′ map′ d e shown .1 in
-          marked-once map′ map′ pc h1 (Done n) n refl window-low six-left (seen-marked map′ pc (w .page) on-page (r .seen))
+          let r = ready-done w mem map ready regs c (whole h1 h2 h3) out n regs′ mem′ map′ d e open-now .3 in
+          marked-once map′ map′ pc h1 (Done n) n refl (omega (arith, below)) six-left (seen-marked map′ pc (pageOf (w .first)) (unfold pageOf in on-page) (r .seen))
 
 -- opened
-pub shut-ready : (w : Window) (map : List ℕ) (size : ℕ) → w .page ≡ 4294967295 → Ready w map size
+pub shut-ready : (w : Window) (map : List ℕ) (size : ℕ) → w .len ≡ 0 → Ready w map size
 shut-ready w map size e = λ l. absurd (omega arith)
 
 pub open-ready : (map : List ℕ) (size page first : ℕ) (s b : Bool) (r : ℕ) → first ≡ page * 4096
     → s ≡ eqb (bitG (wordOf map page)) 1 → s ≡ true → b ≡ plain map size Fetch first 4096 → b ≡ true → r ≡ realOf map first → r < 266240
-    → Ready (record { page = page; base = r }) map size
+    → Ready (record { first = first; len = 4091; base = r }) map size
 unfolding plain
 open-ready map size page first s b r ef es ts eb tb er sm =
-    λ l. (low, record { fair = subst (λ (x : ℕ). ordinary (wordOf map x) Fetch ≡ true) at-page ordinarily; seen = eqb-true (bitG (wordOf map page)) 1 (sym es ∙ ts); there = stands; room = fitting; small = sm })
+    λ l. (low, omega (arith, ef), omega arith, record { fair = ordinarily; seen = ap (λ (x : ℕ). bitG (wordOf map x)) at-page ∙ eqb-true (bitG (wordOf map page)) 1 (sym es ∙ ts); there = stands; room = fitting; small = sm })
   where
     p-2 : both (ltb first 2097152) (both (leb (first % 4096 + 4096) 4096) (both (ordinary (wordOf map (pageOf first)) Fetch) (leb (realOf map first + 4096) size))) ≡ true
     p-2 = right-of (ltb 0 4096) (both (ltb first 2097152) (both (leb (first % 4096 + 4096) 4096) (both (ordinary (wordOf map (pageOf first)) Fetch) (leb (realOf map first + 4096) size)))) (sym eb ∙ tb)
@@ -212,18 +224,16 @@ open-ready map size page first s b r ef es ts eb tb er sm =
     at-page : pageOf first ≡ page
     at-page = unfold pageOf in omega (arith, ef)
 
-    low : page < 512
-    low =
-        let k : first < 2097152 = ltb-true first 2097152 (left-of (ltb first 2097152) (both (leb (first % 4096 + 4096) 4096) (both (ordinary (wordOf map (pageOf first)) Fetch) (leb (realOf map first + 4096) size))) p-2) in
-        omega arith
+    low : first < 2097152
+    low = ltb-true first 2097152 (left-of (ltb first 2097152) (both (leb (first % 4096 + 4096) 4096) (both (ordinary (wordOf map (pageOf first)) Fetch) (leb (realOf map first + 4096) size))) p-2)
 
     fitting : r + 4096 ≤ size
     fitting =
         let k : realOf map first + 4096 ≤ size = leb-true (realOf map first + 4096) size (right-of (ordinary (wordOf map (pageOf first)) Fetch) (leb (realOf map first + 4096) size) p-4) in
         omega arith
 
-    stands : r ≡ base (wordOf map page)
-    stands = er ∙ page-real map first page ef
+    stands : r ≡ base (wordOf map (pageOf first))
+    stands = er ∙ page-real map first page ef ∙ ap (λ (x : ℕ). base (wordOf map x)) (sym at-page)
 
 -- a page that the map lacks has no mark
 pub unseen : (map : List ℕ) (page : ℕ) → length map ≤ page → false ≡ eqb (bitG (wordOf map page)) 1

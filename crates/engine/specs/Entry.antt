@@ -1,13 +1,13 @@
 -- For the engine's inner functions: an instruction's halfwords, what the action does with them, the marks that it sets where it completes,
 -- and the answers of a step and a run.
-use Prim.Native.Nat.{ℕ, _+_, _/_, _%_, _<_, _≤_}
+use Prim.Native.Nat.{ℕ, _+_, _-_, _%_, _<_, _≤_}
 use mathlib.Core.Path.{_≡_}
 use mathlib.Core.List.{List}
 use mathlib.Core.Bool.{Bool, true}
 use lib.Dec.{eqb, leb, ltb}
 use lib.ListN.{length}
 use Rattle.words.specs.Pick.{pick, both}
-use Rattle.pages.specs.Word.{bitG, base, wordOf}
+use Rattle.pages.specs.Word.{bitG, base, pageOf, wordOf}
 use Rattle.pages.specs.Plain.{ordinary}
 use Rattle.pages.specs.declared.Access.the-variants.{Fetch}
 use Rattle.pages.specs.declared.Look.{Look}
@@ -143,8 +143,9 @@ pub record Held (b w size : ℕ) : Type 0 where
 
 -- a window is shut, or holds of this map and a memory of this size
 abbrev pub Ready : Window → List ℕ → ℕ → Type 0
-Ready w map size = w .page < 1048576 → (w .page < 512) × Held (w .base) (wordOf map (w .page)) size
+Ready w map size =
+    0 < w .len → (w .first < 2097152) × (w .first % 4096 ≡ 0) × (w .len ≤ 4091) × Held (w .base) (wordOf map (pageOf (w .first))) size
 
 -- whether six bytes from pc on lie in the window
 abbrev pub inside : Window → ℕ → Bool
-inside w pc = both (eqb (pc / 4096) (w .page)) (leb (pc % 4096) 4090)
+inside w pc = both (leb (w .first) pc) (ltb (pc - w .first) (w .len))

@@ -10,22 +10,23 @@ ghost use Rattle.pages.specs.Word.{bitG, wordOf};
 ghost use Rattle.pages.specs.Framed.{framedOf};
 ghost use Rattle.engine.specs.Entry.{Ready, inside, textOf};
 
-// No page.
+// No page: nothing lies in it.
 pub fn shut() -> Window
-    ensures { λ r. ⌜ r .page ≡ 4294967295 ⌝ }
+    ensures { λ r. ⌜ r .len ≡ 0 ⌝ }
 {
     Window {
-        page: 4294967295,
+        first: 0,
+        len: 0,
         base: 0,
     }
 }
 
-// Whether six bytes from pc on lie in the window.
+// Whether an instruction may begin at pc, with six bytes in the window.
 pub fn is_inside(w: Window, pc: u32) -> bool
     ensures { λ r. ⌜ r ≡ inside w pc ⌝ }
 {
-    if pc / 4096 == w.page {
-        return pc % 4096 <= 4090;
+    if w.first <= pc {
+        return pc - w.first < w.len;
     }
     false
 }
@@ -50,7 +51,8 @@ fn open(mem: &[u8], map: &[u16], pc: u32) -> Window
     if is_seen(map, page) {
         if pages::is_plain(map, mem.len(), Access::Fetch, first, 4096) {
             return Window {
-                page: page,
+                first: first,
+                len: 4091,
                 base: pages::real_at(map, first),
             };
         }
@@ -75,7 +77,7 @@ pub fn text(mem: &[u8], map: &[u16], w: Window, pc: u32) -> Text
     ensures { λ r. ⌜ r ≡ textOf (framedOf (now (mem .entry)) (now (map .entry))) pc ⌝ }
 {
     if is_inside(w, pc) {
-        let r = w.base + (pc % 4096) as usize;
+        let r = w.base + (pc - w.first) as usize;
         let h1 = fields::flat::half_of(mem, r);
         let h2 = fields::flat::half_of(mem, r + 2);
         let h3 = fields::flat::half_of(mem, r + 4);

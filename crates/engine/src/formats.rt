@@ -125,7 +125,7 @@ pub fn finish(
         return Out::Stop(5, c.pc);
     };
     match x {
-        Action::Rr(y) => Out::Done(actions::rr::execute(regs, c, y, code::split_rr(h1))),
+        Action::Rr(y) => Out::Done(actions::rr::execute(regs, c, y, h1)),
         Action::Rx(y) => actions::rx::execute(regs, mem, map, c, y, code::split_rx(h1, h2)),
         Action::Rs(y) => actions::rs::execute(regs, mem, map, c, y, code::split_rs(h1, h2)),
         Action::Si(y) => actions::si::execute(regs, mem, map, c, y, code::split_si(h1, h2)),

@@ -15,10 +15,11 @@ pub enum Text {
     Stop(u32, u32),
 }
 
-// Where a run fetches from without looking up again: an ordinary page that has its mark, and where it begins in memory. Page numbers of
-// 1,048,576 and more stand for no page.
+// Where a run fetches from without looking up again: an ordinary page that has its mark, from its first address on, as far as six bytes
+// still lie in it, and where it begins in memory. A length of 0 stands for no page.
 pub struct Window {
-    pub page: u32,
+    pub first: u32,
+    pub len: u32,
     pub base: usize,
 }
 

@@ -1,16 +1,16 @@
-use borrow.Author.Tests.{eq-eqb, ne-eqb}
+use borrow.Author.Tests.{le-leb, lt-leb}
 use Rattle.engine.proofs.fetching.is_inside.Statement.{statement}
 use Rattle.engine.proofs.fetching.is_inside.Tie as tie
 use Rattle.engine.proofs.fetching.is_inside.Reads as reads
 use Rattle.engine.proofs.fetching.is_inside.Lts as lts
 
--- src/fetching.rt:28:9
+-- src/fetching.rt:29:9
 returns : tie.Need-returns
-returns c = rw (eq-eqb _ _ (c .if1 .taken))
+returns c = rw (le-leb _ _ (c .before .before .if1 .taken))
 
--- src/fetching.rt:24:1
+-- src/fetching.rt:25:1
 returns-2 : tie.Need-returns-2
-returns-2 c = rw (ne-eqb _ _ (c .if1 .left))
+returns-2 c = rw (lt-leb _ _ (c .if1 .left))
 
 pub is-inside-spec : {M : Type 1} → statement M
 is-inside-spec = tie.close (tie.spec returns returns-2)

@@ -10,31 +10,31 @@ use Rattle.engine.proofs.fetching.shut.Reads as shut-reads
 use Rattle.pages.proofs.is_plain.Reads as is-plain-reads
 use Rattle.pages.proofs.real_at.Reads as real-at-reads
 
--- src/fetching.rt:49:17
+-- src/fetching.rt:50:17
 mul-first : tie.Need-mul-first
 mul-first c = search needs
 
--- src/fetching.rt:50:8
+-- src/fetching.rt:51:8
 is-seen-requires : tie.Need-is-seen-requires
 is-seen-requires c κs = search needs
 
--- src/fetching.rt:51:12
+-- src/fetching.rt:52:12
 is-plain-requires : tie.Need-is-plain-requires
 is-plain-requires c κs = search needs
 
--- src/fetching.rt:54:23
+-- src/fetching.rt:56:23
 real-at-requires : tie.Need-real-at-requires
 real-at-requires c κs = search needs
 
--- src/fetching.rt:52:13
+-- src/fetching.rt:53:13
 returns : tie.Need-returns
 returns c = open-ready _ _ _ _ _ _ _ refl (c .before .before .before .before .is-seen .ensures) (c .before .before .before .if1 .taken) (c .before .before .is-plain .ensures) (c .before .if2 .taken) ((c .real-at .ensures) .0) ((c .real-at .ensures) .1)
 
--- src/fetching.rt:58:5
+-- src/fetching.rt:60:5
 shut-requires : tie.Need-shut-requires
 shut-requires c κs = search needs
 
--- src/fetching.rt:45:1
+-- src/fetching.rt:46:1
 returns-2 : tie.Need-returns-2
 returns-2 c = shut-ready _ _ _ (c .shut .ensures)
 

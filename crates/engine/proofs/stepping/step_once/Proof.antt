@@ -49,7 +49,7 @@ same-length-3 c = search needs
 
 -- src/stepping.rt:34:17
 returns-2 : tie.Need-returns-2
-returns-2 c = step-whole _ _ _ _ (c .before .before .before .before .before .before .before .before .before .before .before .before .before .before .before .before .before .before .if1 .left) _ (c .before .before .before .before .before .before .before .before .before .before .before .before .before .before .before .text .ensures) _ _ _ ((c .before .before .before .before .before .before .before .before .before .before .before .before .before .text3 .given) .1) _ _ _ _ _ (c .before .before .before .before .before .before .before .before .finish .ensures) (window-marked _ ((c .before .before .before .before .before .before .before .before .before .before .before .before .before .before .before .before .before .before .before .before .before .before .args .mem .now)) _ (c .before .before .before .before .before .before .before .before .before .before .before .before .before .before .before .before .before .before .before .before .before .before .pre) _ (omega (arith, (text-low _ _ _ _ _ _ _ (c .before .before .before .before .before .before .before .before .before .before .before .before .before .before .before .text .ensures) ((c .before .before .before .before .before .before .before .before .before .before .before .before .before .text3 .given) .1)))) _ (c .before .is-inside .ensures) (c .if2 .taken) _ _ _ _ _ _ _ _ _ (c .before .before .before .before .before .before .before .before .finish .ensures))
+returns-2 c = step-whole _ _ _ _ (c .before .before .before .before .before .before .before .before .before .before .before .before .before .before .before .before .before .before .if1 .left) _ (c .before .before .before .before .before .before .before .before .before .before .before .before .before .before .before .text .ensures) _ _ _ ((c .before .before .before .before .before .before .before .before .before .before .before .before .before .text3 .given) .1) _ _ _ _ _ (c .before .before .before .before .before .before .before .before .finish .ensures) (window-marked _ ((c .before .before .before .before .before .before .before .before .before .before .before .before .before .before .before .before .before .before .before .before .before .before .args .mem .now)) _ (c .before .before .before .before .before .before .before .before .before .before .before .before .before .before .before .before .before .before .before .before .before .before .pre) _ _ (c .before .is-inside .ensures) (c .if2 .taken) _ _ _ _ _ _ _ _ _ (c .before .before .before .before .before .before .before .before .finish .ensures))
 
 -- src/stepping.rt:36:13
 mark-requires : tie.Need-mark-requires
