@@ -1,8 +1,8 @@
 // The engine: a step, a run, and the two public entries.
 pub mod door;
+pub mod fetching;
 pub mod formats;
 pub mod stepping;
-pub mod fetching;
 
 use actions::Now;
 use machine::Reply;

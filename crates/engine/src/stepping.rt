@@ -2,8 +2,8 @@
 use crate::Ran;
 use crate::Text;
 use crate::Window;
-use crate::formats;
 use crate::fetching;
+use crate::formats;
 use actions::Now;
 use actions::Out;
 ghost use mathlib.Core.Path.{_≡_};
