@@ -51,12 +51,6 @@ first-found map size acc a (suc n) rest r h e = go (lookOf map size acc a) refl 
     go (Refused c p) k e = absurd (let z : _≡_ {A = ℕ} 0 1 = cc in omega arith)
 
 module _ {R : Type 0} (acc : Access) (a n : ℕ) (k : Prog R) (mem map : List ℕ) (kept : Framed) where
-  s : Framed
-  s = framedOf mem map
-
-  rest-of : Look → Answer R Framed
-  rest-of l = afterLook l (λ t. interp framed k kept t) (framedOf mem (noteField map a n)) kept
-
   pub one-stop : (c : Cause) (p : ℕ) → lookOne map (length mem) acc a n ≡ Refused c p → 0 < n
       → interp framed (looks acc a n k) kept (framedOf mem map) ≡ refused (numberOf c) p kept
   unfolding lookOne
@@ -109,12 +103,6 @@ marked-blind mem map b (suc m) acc a n rest =
 
 -- two fields
 module _ {R : Type 0} (f g : Field) (k : Prog R) (mem map : List ℕ) (kept : Framed) (h : 0 < f .len) where
-  both-looks : Prog R
-  both-looks = looks (f .access) (f .at) (f .len) (looks (g .access) (g .at) (g .len) k)
-
-  noted-both : Framed
-  noted-both = framedOf mem (noteField (noteField map (f .at) (f .len)) (g .at) (g .len))
-
   pub two-is : (found : Look) → found ≡ lookFields map (length mem) (f ∷ g ∷ []) (lookOf map (length mem) (f .access) (f .at))
       → interp framed (looks (f .access) (f .at) (f .len) (looks (g .access) (g .at) (g .len) k)) kept (framedOf mem map)
       ≡ afterLook found (λ t. interp framed k kept t) (framedOf mem (noteField (noteField map (f .at) (f .len)) (g .at) (g .len))) kept

@@ -12,7 +12,7 @@ use Rattle.pages.specs.declared.Cause.{Cause}
 use Rattle.pages.specs.declared.Cause.the-variants.{Addressing, PagingQueue, PagingError}
 use Rattle.pages.specs.declared.Look.{Look}
 use Rattle.pages.specs.declared.Look.the-variants.{At, Refused}
-use Rattle.pages.specs.Word.{bitU, bitS, bitE, bitM, bitH, bitsX, frame, pageOf, dispOf, base, real, wordOf}
+use Rattle.pages.specs.Word.{bitU, bitS, bitE, bitM, bitH, bitsX, pageOf, dispOf, base, real, wordOf}
 use Rattle.pages.specs.Tests.{Verdict, fine, bad, isStore, tests, table}
 use Rattle.pages.specs.Look.{lookOf, within}
 
@@ -95,42 +95,6 @@ pub refused-place : (map : List ℕ) (n : ℕ) (acc : Access) (a : ℕ) (c : Cau
 unfolding lookOf
 refused-place map n acc a c p h =
     within-place (tests acc a (wordOf map (pageOf a))) (real (wordOf map (pageOf a)) (dispOf a)) n a c p h
-
--- an ordinary page, by one test
-module _ (map : List ℕ) (n : ℕ) (acc : Access) (a w r : ℕ) (h : a < 2097152) (ew : w ≡ wordOf map (pageOf a)) (o : w / 64 % 256 ≡ 192) (er : r ≡ w % 64 * 4096 + a % 4096) where
-  usable : bitU w ≡ 0 → ⊥
-  unfolding bitU
-  usable z = omega arith
-
-  no-x : bitsX w ≤ 0
-  unfolding bitsX
-  no-x = omega arith
-
-  whole-page : false ≡ both (eqb (bitM w) 1) (leb 2048 (dispOf a))
-  unfolding bitM
-  whole-page = let z : w / 1024 % 2 ≡ 0 = omega arith in rw z
-
-  open-to-all : bitS w ≡ 0 → ⊥
-  unfolding bitS
-  open-to-all z = omega arith
-
-  may-store : false ≡ both (eqb (bitE w) 1) (isStore acc)
-  unfolding bitE
-  may-store = let z : w / 2048 % 2 ≡ 0 = omega arith in rw z
-
-  at-frame : w % 64 * 4096 ≡ base w
-  unfolding base frame bitM bitH
-  at-frame = let z : w / 1024 % 2 ≡ 0 = omega arith in rw z (omega arith)
-
-  is-there : r ≡ w % 64 * 4096 + dispOf a
-  unfolding dispOf
-  is-there = er
-
-  pub quick-at : r < n → At r ≡ lookOf map n acc a
-  quick-at = look-7 map n acc a h w ew usable no-x false whole-page refl open-to-all false may-store refl (w % 64 * 4096) r at-frame is-there
-
-  pub quick-no : n ≤ r → Refused Addressing a ≡ lookOf map n acc a
-  quick-no = look-8 map n acc a h w ew usable no-x false whole-page refl open-to-all false may-store refl (w % 64 * 4096) r at-frame is-there
 
 -- M and H, told by one test
 pub upper : (w : ℕ) → w / 512 % 4 ≡ 3 → both (eqb (bitM w) 1) (eqb (bitH w) 1) ≡ true
