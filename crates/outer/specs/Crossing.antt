@@ -10,6 +10,10 @@ use Rattle.printing.specs.declared.Text.{Text}
 use Rattle.printing.specs.Answer.{textOf}
 use Rattle.sheet.specs.Sheet.{answerOf}
 
+-- the version of these functions, 0.3.0, as one number: major × 65,536 + minor × 256 + patch
+abbrev pub version : ℕ
+version = 768
+
 pub record Crossed : Type 0 where
   pub number : ℕ
   pub mem : List ℕ

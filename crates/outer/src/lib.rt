@@ -4,7 +4,15 @@ ghost use mathlib.Core.Path.{_≡_};
 ghost use lib.Dec.{eqb};
 ghost use lib.ListN.{length};
 ghost use Rattle.words.specs.Pick.{pick};
-ghost use Rattle.outer.specs.Crossing.{crossed, six, stepCrossed, runCrossed, sheetCrossed};
+ghost use Rattle.outer.specs.Crossing.{version, crossed, six, stepCrossed, runCrossed, sheetCrossed};
+
+// The version of these functions, as one number: major × 65,536 + minor × 256 + patch.
+#[no_mangle]
+pub extern "C" fn spectra46_version() -> u32
+    ensures { λ r. ⌜ r ≡ version ⌝ }
+{
+    768
+}
 
 // The six numbers of a reply, into six places.
 fn put_reply(reply: &mut [u32], r: Reply)
