@@ -34,7 +34,7 @@ use Rattle.fields.proofs.Bridge.{afterLook, gets-is, puts-is, moves-is, compare
 use Rattle.actions.specs.declared.Now.{Now}
 use Rattle.actions.specs.declared.Out.{Out}
 use Rattle.actions.specs.declared.Out.the-variants.{Done, Stop}
-use Rattle.actions.specs.Told.{cpuOf, told, refusalOf}
+use Rattle.actions.specs.Answered.{cpuOf, told, refusalOf}
 use Rattle.actions.proofs.Looks.{one-stop, one-go, byte-stop, byte-go, two-is, off-boundary, on-boundary}
 
 -- a program that does no more than set the state

@@ -1,4 +1,4 @@
 pub mod Scalars
 pub mod Looks
 pub mod Executed
-pub mod Turns
+pub mod RegisterLoops

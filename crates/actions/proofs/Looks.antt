@@ -20,7 +20,7 @@ use Rattle.pages.proofs.LookLaws.{refused-place}
 use Rattle.machine.specs.Prog.{Prog, fail, look, Answer, refused, interp}
 use Rattle.machine.specs.Fields.{looks, aligned}
 use Rattle.machine.specs.Store.{framed}
-use Rattle.machine.proofs.Late.{blind}
+use Rattle.machine.proofs.MarksLast.{blind}
 use Rattle.fields.specs.declared.Field.{Field}
 use Rattle.fields.specs.Direct.{orElse, lookField, lookFields, lookOne, noteField}
 use Rattle.fields.proofs.Bridge.{afterLook, notedField, looks-is, field-blind}

@@ -1,3 +1,3 @@
 -- What the executors' own types say in the definitions' terms.
-pub mod Told
+pub mod Answered
 pub mod Multiple

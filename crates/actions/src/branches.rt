@@ -5,7 +5,7 @@ use code::Branch;
 ghost use mathlib.Core.Path.{_≡_};
 ghost use Rattle.machine.specs.Cpu.{withPc};
 ghost use Rattle.machine.specs.Branches.{chosen, link, lessOne, going, branch};
-ghost use Rattle.actions.specs.Told.{cpuOf};
+ghost use Rattle.actions.specs.Answered.{cpuOf};
 
 // Whether the mask has the bit for this code.
 fn is_chosen(mask: u8, code: u32) -> bool

@@ -11,7 +11,7 @@ use pages::Cause;
 use pages::Look;
 ghost use mathlib.Core.Path.{_≡_};
 ghost use Rattle.pages.specs.Tests.{numberOf};
-ghost use Rattle.actions.specs.Told.{refusalOf};
+ghost use Rattle.actions.specs.Answered.{refusalOf};
 
 // The state's scalars; the registers are lent beside it. Twelve bytes: a struct of eight is carried as one number, and then the next
 // fetch waits for the condition code (measured: 17 ns an instruction instead of 7).

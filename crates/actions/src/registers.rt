@@ -3,7 +3,7 @@ use crate::Now;
 ghost use mathlib.Core.Path.{_≡_};
 ghost use lib.ListN.{getD, set};
 ghost use Rattle.machine.specs.Cpu.{ahead, part, address};
-ghost use Rattle.actions.specs.Told.{cpuOf};
+ghost use Rattle.actions.specs.Answered.{cpuOf};
 
 pub fn reg(regs: &[u32], i: u8) -> u32
     ensures { λ r. ⌜ r ≡ getD (now (regs .entry)) i 0 ⌝ }

@@ -9,7 +9,7 @@ ghost use mathlib.Core.Path.{_≡_};
 ghost use Rattle.machine.specs.Prog.{done};
 ghost use Rattle.code.specs.Formats.{rrOf};
 ghost use Rattle.machine.specs.Rr.{rr};
-ghost use Rattle.actions.specs.Told.{cpuOf};
+ghost use Rattle.actions.specs.Answered.{cpuOf};
 
 fn combine(regs: &mut [u32], c: Now, op: Alu, h1: u16) -> Now
     ensures { λ n. ⌜ done (cpuOf (now (regs .exit)) n) ≡ rr (RrAction.Registers op) (rrOf h1) (cpuOf (now (regs .entry)) c) ⌝ }

@@ -13,7 +13,7 @@ ghost use Rattle.pages.specs.Framed.{framedOf};
 ghost use Rattle.machine.specs.Prog.{done};
 ghost use Rattle.machine.specs.Rs.{rs, rsAddress, howMany, nextReg, nextWord, indexSum, isHigh};
 ghost use Rattle.actions.specs.Multiple.{filled, spilled};
-ghost use Rattle.actions.specs.Told.{cpuOf, told, doing};
+ghost use Rattle.actions.specs.Answered.{cpuOf, told, doing};
 
 fn operand_address(regs: &[u32], c: Now, f: RsFields) -> u32
     ensures { λ r. ⌜ r ≡ rsAddress f (cpuOf (now (regs .entry)) c) ⌝ }

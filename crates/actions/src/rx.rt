@@ -20,7 +20,7 @@ ghost use Rattle.fields.specs.Direct.{flat};
 ghost use Rattle.machine.specs.Prog.{done};
 ghost use Rattle.machine.specs.Fields.{bytesOf};
 ghost use Rattle.machine.specs.Rx.{rx, rxAddress, widthOf, taken};
-ghost use Rattle.actions.specs.Told.{cpuOf, told, doing};
+ghost use Rattle.actions.specs.Answered.{cpuOf, told, doing};
 
 fn operand_address(regs: &[u32], c: Now, f: RxFields) -> u32
     ensures { λ r. ⌜ r ≡ rxAddress f (cpuOf (now (regs .entry)) c) ⌝ }

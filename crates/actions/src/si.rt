@@ -10,7 +10,7 @@ use words::Logic;
 ghost use mathlib.Core.Path.{_≡_};
 ghost use Rattle.pages.specs.Framed.{framedOf};
 ghost use Rattle.machine.specs.Si.{si, siAddress};
-ghost use Rattle.actions.specs.Told.{cpuOf, told, doing};
+ghost use Rattle.actions.specs.Answered.{cpuOf, told, doing};
 
 fn operand_address(regs: &[u32], c: Now, f: SiFields) -> u32
     ensures { λ r. ⌜ r ≡ siAddress f (cpuOf (now (regs .entry)) c) ⌝ }

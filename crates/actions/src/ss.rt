@@ -10,7 +10,7 @@ use pages::Look;
 ghost use mathlib.Core.Path.{_≡_};
 ghost use Rattle.pages.specs.Framed.{framedOf};
 ghost use Rattle.machine.specs.Ss.{ss, firstAddress, secondAddress};
-ghost use Rattle.actions.specs.Told.{cpuOf, told, doing};
+ghost use Rattle.actions.specs.Answered.{cpuOf, told, doing};
 
 fn first_address(regs: &[u32], c: Now, f: SsFields) -> u32
     ensures { λ r. ⌜ r ≡ firstAddress f (cpuOf (now (regs .entry)) c) ⌝ }

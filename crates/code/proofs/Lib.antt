@@ -1,1 +1,3 @@
+mod Decoding
 mod Rows
+mod SaysOnce

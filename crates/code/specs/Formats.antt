@@ -25,8 +25,8 @@ rightOf h1 = h1 % 16
 abbrev pub baseOf : ℕ → ℕ
 baseOf h = h / 4096
 
-abbrev pub dispOf : ℕ → ℕ
-dispOf h = h % 4096
+abbrev pub displacementOf : ℕ → ℕ
+displacementOf h = h % 4096
 
 -- RR: op R1 R2
 abbrev pub rrOf : ℕ → RrFields
@@ -34,17 +34,17 @@ rrOf h1 = record { r1 = leftOf h1; r2 = rightOf h1 }
 
 -- RX: op R1 X2 B2 D2
 abbrev pub rxOf : ℕ → ℕ → RxFields
-rxOf h1 h2 = record { r1 = leftOf h1; x2 = rightOf h1; b2 = baseOf h2; d2 = dispOf h2 }
+rxOf h1 h2 = record { r1 = leftOf h1; x2 = rightOf h1; b2 = baseOf h2; d2 = displacementOf h2 }
 
 -- RS: op R1 R3 B2 D2
 abbrev pub rsOf : ℕ → ℕ → RsFields
-rsOf h1 h2 = record { r1 = leftOf h1; r3 = rightOf h1; b2 = baseOf h2; d2 = dispOf h2 }
+rsOf h1 h2 = record { r1 = leftOf h1; r3 = rightOf h1; b2 = baseOf h2; d2 = displacementOf h2 }
 
 -- SI: op I2 B1 D1
 abbrev pub siOf : ℕ → ℕ → SiFields
-siOf h1 h2 = record { i2 = byteOf h1; b1 = baseOf h2; d1 = dispOf h2 }
+siOf h1 h2 = record { i2 = byteOf h1; b1 = baseOf h2; d1 = displacementOf h2 }
 
 -- SS: op L B1 D1 B2 D2
 abbrev pub ssOf : ℕ → ℕ → ℕ → SsFields
 ssOf h1 h2 h3 =
-    record { l = byteOf h1; b1 = baseOf h2; d1 = dispOf h2; b2 = baseOf h3; d2 = dispOf h3 }
+    record { l = byteOf h1; b1 = baseOf h2; d1 = displacementOf h2; b2 = baseOf h3; d2 = displacementOf h3 }

@@ -5,6 +5,7 @@ use Prim.Native.String.{String}
 use mathlib.Core.List.{List, [], _∷_}
 use lib.Dec.{eqb}
 use Rattle.words.specs.Pick.{pick}
+use Rattle.words.specs.Said.{Said, says}
 use Rattle.words.specs.declared.Alu.the-variants.{Load, Test, Complement, Positive, Negative, Add, Subtract, Compare, AddLogical, SubtractLogical, CompareLogical, Bits}
 use Rattle.words.specs.declared.Logic.the-variants.{And, Or, Xor}
 use Rattle.code.specs.declared.Operand.the-variants.{WordWith, HalfSpread, ByteInserted}
@@ -93,3 +94,8 @@ find (r ∷ rs) k = pick (eqb k (r .code)) (Known (r .action)) (find rs k)
 
 unfoldable pub actionOf : ℕ → Found
 actionOf k = find table k
+
+-- the enum's cases in document 01's terms: the action, or number 5
+abbrev pub foundSays : Found → Said (List Action)
+foundSays (Known x) = says 0 (x ∷ [])
+foundSays Unknown = says 5 []

@@ -6,7 +6,7 @@ use mathlib.Core.List.{List, [], _∷_}
 use lib.ListN.{getD, set, replicate}
 use lib.Seq.{sets}
 use Rattle.pages.specs.Word.{bitU, bitS, bitE, bitM, bitH, bitsX, frame, base, size, real, pageOf, dispOf, next, wordOf, Open, accessed, written}
-use Rattle.pages.specs.Tests.{tests, table}
+use Rattle.pages.specs.Tests.{tests, sixTests}
 use Rattle.pages.specs.Look.{lookOf}
 use Rattle.pages.specs.Framed.{accessedAt, writtenAt, readByte, writeByte}
 use Rattle.code.specs.Table.{actionOf}
@@ -24,7 +24,7 @@ use Rattle.demand.specs.Premise.{Inside, Apart}
 
 -- all that the examples compute with
 unfoldable pub computes : Unit {0}
-unfolding bitU bitS bitE bitM bitH bitsX frame base size real pageOf dispOf next wordOf accessed written tests table lookOf accessedAt writtenAt readByte writeByte actionOf operations interp run looks gets halfword loading reg part address ahead rx taken si act step proper runOutcome bare lookPlain notePlain stored readPlain writePlain plainRun
+unfolding bitU bitS bitE bitM bitH bitsX frame base size real pageOf dispOf next wordOf accessed written tests sixTests lookOf accessedAt writtenAt readByte writeByte actionOf operations interp run looks gets halfword loading reg part address ahead rx taken si act step proper runOutcome bare lookPlain notePlain stored readPlain writePlain plainRun
 computes = tt
 
 -- what a machine answers: number, place, count, counter, register 1, and the bits of a page

@@ -11,8 +11,8 @@ use Rattle.pages.specs.Word.{bitU, base, size, real, wordOf, Open}
 use Rattle.machine.specs.Machine.{Given, cpuIn, storeIn, runOutcome}
 use Rattle.demand.specs.Plain.{shown, plainRun}
 use Rattle.demand.specs.Premise.{Premise}
-use Rattle.demand.specs.Demand.{Agrees}
-use Rattle.demand.proofs.Third.{agreement, shown-same}
+use Rattle.demand.specs.DemandThree.{Agrees}
+use Rattle.demand.proofs.DemandThreeHolds.{shown-same, runs-keep-pages}
 use Rattle.demand.proofs.Examples.{computes, BothSee, loaded, noPages}
 
 -- pages 10 and 11 in the lower and the upper half of frame 0
@@ -77,7 +77,7 @@ halved = loaded storeAndFetchAgain halves 0x00a000
 halves-agree : (budget : ℕ) → (runOutcome budget halved) .reply .number ≢ 6
     → Agrees (runOutcome budget halved) (plainRun budget (cpuIn halved) (shown (storeIn halved)))
 halves-agree budget h =
-    agreement budget halved (shown (storeIn halved)) halves-premise (shown-same (storeIn halved)) h
+    runs-keep-pages budget halved .agrees (shown (storeIn halved)) halves-premise (shown-same (storeIn halved)) h
 
 halves-seen : BothSee 2 halved 11
     (7 ∷ 0 ∷ 2 ∷ 0x00a008 ∷ 7 ∷ 0xf400 ∷ [])

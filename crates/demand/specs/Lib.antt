@@ -1,4 +1,6 @@
--- Demand 3. The plain machine, what the demand supposes, and what it claims: to be read in this order, after the machine.
+-- Demands 1 and 3: what a step and a run leave behind; the plain machine, what demand 3 supposes, and what it claims. To be read in this
+-- order, after the machine.
+pub mod DemandOne
 pub mod Plain
 pub mod Premise
-pub mod Demand
+pub mod DemandThree

@@ -10,8 +10,8 @@ use Rattle.pages.specs.declared.Access.the-variants.{Load, Store}
 use Rattle.pages.specs.Word.{bitsX, pageOf, dispOf, real, wordOf}
 use Rattle.pages.specs.Tests.{Verdict, fine, bad, tests}
 use Rattle.pages.specs.Framed.{Framed, accessedAt, writtenAt}
-use Rattle.machine.specs.Prog.{Ops}
-use Rattle.machine.specs.Run.{Result, run}
+use Rattle.machine.specs.Prog.{Ops, interp}
+use Rattle.machine.specs.Run.{Result, one, run}
 use Rattle.machine.specs.Cpu.{Cpu}
 use Rattle.machine.specs.Step.{step}
 
@@ -65,7 +65,10 @@ plain =
       wrote = λ q a v. writePlain q a v;
     }
 
--- its run: the machine's own step, with this store behind it
+-- its step and its run: the machine's own, with this store behind them
+unfoldable pub plainStep : Cpu → Plain → Result Cpu Plain
+plainStep c q = one c (interp plain (step c) q q)
+
 unfoldable pub plainRun : ℕ → Cpu → Plain → Result Cpu Plain
 plainRun budget c q = run (λ c. plain) step budget c q
 

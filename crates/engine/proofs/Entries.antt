@@ -15,7 +15,7 @@ use Rattle.machine.specs.Cpu.{Cpu}
 use Rattle.machine.specs.Step.{step}
 use Rattle.machine.specs.Machine.{Outcome, given, outcome, proper, turnedAway, outcomeOf, opsFor, stepOutcome, runOutcome}
 use Rattle.actions.specs.declared.Now.{Now}
-use Rattle.actions.specs.Told.{cpuOf}
+use Rattle.actions.specs.Answered.{cpuOf}
 use Rattle.engine.specs.declared.Ran.{Ran}
 use Rattle.engine.specs.Entry.{stepReply, ranReply, ranAs}
 

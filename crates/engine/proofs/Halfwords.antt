@@ -11,7 +11,7 @@ use Rattle.pages.specs.Framed.{Framed, framedOf, noted, readByte}
 use Rattle.machine.specs.Prog.{Prog, Answer, finished, refused, interp}
 use Rattle.machine.specs.Fields.{gets, halfword}
 use Rattle.machine.specs.Store.{framed}
-use Rattle.machine.proofs.Late.{late, read-noted, onStore}
+use Rattle.machine.proofs.MarksLast.{late, read-noted, onStore}
 use Rattle.fields.specs.Direct.{noteField, readField}
 use Rattle.fields.proofs.Bridge.{gets-is}
 use Rattle.actions.proofs.Looks.{one-stop, one-go}
@@ -57,9 +57,9 @@ comes-marked (T.Whole h1 h2 h3) f g x s = onStore-twice f g x
 comes-marked (T.Stop k a) f g x s = refl
 
 -- a text that is whole, where nothing is marked
-pub comes-plain : {R : Type 0} (h1 h2 h3 : ℕ) (x : Answer R Framed) (s : Framed) → x ≡ comesTo (T.Whole h1 h2 h3) (λ u. u) x s
-comes-plain h1 h2 h3 (finished r t) s = refl
-comes-plain h1 h2 h3 (refused n a t) s = refl
+pub comes-unchanged : {R : Type 0} (h1 h2 h3 : ℕ) (x : Answer R Framed) (s : Framed) → x ≡ comesTo (T.Whole h1 h2 h3) (λ u. u) x s
+comes-unchanged h1 h2 h3 (finished r t) s = refl
+comes-unchanged h1 h2 h3 (refused n a t) s = refl
 
 -- a halfword in front of what the rest comes to
 pub half-comes : {R : Type 0} (mem map : List ℕ) (a : ℕ) (k : ℕ → Prog R) (t : Text) (f : Framed → Framed) (x : Answer R Framed)

@@ -1,6 +1,6 @@
 mod Halfwords
 mod Texts
-mod Quick
+mod CompactText
 mod Marked
 mod Lengths
 mod Runs

@@ -8,7 +8,7 @@ use lib.Dec.{ltb}
 use Rattle.pages.specs.Word.{pageOf}
 use Rattle.pages.specs.Framed.{accessedAt}
 use Rattle.fields.specs.Direct.{noteField}
-use Rattle.fields.proofs.Once.{accessed-again, note-once}
+use Rattle.fields.proofs.MarkedOnce.{accessed-again, note-once}
 use Rattle.actions.specs.declared.Now.{Now}
 use Rattle.actions.specs.declared.Out.{Out}
 use Rattle.actions.specs.declared.Out.the-variants.{Done}

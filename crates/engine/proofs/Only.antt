@@ -5,10 +5,11 @@ use Prim.Native.Nat.{ℕ, zero, suc, _-_}
 use native.Mathlib.Omega.{arith}
 use mathlib.Core.Path.{_≡_, refl, sym, _∙_, ap}
 use mathlib.Core.Bool.{Bool, true, false, cond}
-use mathlib.Core.List.{List}
+use mathlib.Core.List.{List, [], _∷_}
 use borrow.Author.Tests.{ltb-true, ltb-false}
 use lib.Dec.{ltb}
 use lib.IntN.{ℤ, pos, negsuc, subℕ}
+use Rattle.words.specs.Said.{Said}
 use Rattle.pages.specs.Framed.{Framed, framedOf}
 use Rattle.machine.specs.declared.Reply.{Reply}
 use Rattle.machine.specs.Prog.{Prog, done}
@@ -18,9 +19,11 @@ use Rattle.machine.specs.Machine.{Given, Outcome, outcome, stepOutcome, runOutc
 use Rattle.actions.specs.declared.Now.{Now}
 use Rattle.actions.specs.declared.Out.{Out}
 use Rattle.actions.specs.declared.Out.the-variants.{Done, Stop}
-use Rattle.actions.specs.Told.{cpuOf, told}
+use Rattle.actions.specs.Answered.{cpuOf, told}
 use Rattle.engine.specs.declared.Ran.{Ran}
-use Rattle.engine.specs.Entry.{ranAs}
+use Rattle.engine.specs.declared.Text.{Text}
+use Rattle.engine.specs.declared.Text.the-variants as T
+use Rattle.engine.specs.Entry.{ranAs, textSays}
 
 -- `r ≡ ..` and `now (list .exit) ≡ ..`: the answer itself
 pub only : {A : Type 0} (a a′ x : A) → a ≡ x → a′ ≡ x → a ≡ a′
@@ -132,3 +135,17 @@ module _ (r r′ : Reply) (mem mem′ map map′ regs regs′ : List ℕ) where
   pub one-run-answer : (budget : ℕ) (g : Given) → outcome r mem map regs ≡ runOutcome budget g → outcome r′ mem′ map′ regs′ ≡ runOutcome budget g
       → (r ≡ r′) × (mem ≡ mem′) × (map ≡ map′) × (regs ≡ regs′)
   one-run-answer budget g = only-outcome (runOutcome budget g)
+
+-- what a text says in document 01's terms it says once
+abbrev textFrom : ℕ → List ℕ → Text
+textFrom n [] = T.Stop n 0
+textFrom n (a ∷ []) = T.Stop n a
+textFrom n (a ∷ b ∷ []) = T.Stop n a
+textFrom n (a ∷ b ∷ c ∷ l) = T.Whole a b c
+
+text-back : (t : Text) → textFrom (textSays t .number) (textSays t .values) ≡ t
+text-back (T.Whole h1 h2 h3) = refl
+text-back (T.Stop n a) = refl
+
+pub text-once : (t u : Text) → textSays t ≡ textSays u → t ≡ u
+text-once t u e = sym (text-back t) ∙ ap (λ (s : Said (List ℕ)). textFrom (s .number) (s .values)) e ∙ text-back u

@@ -11,11 +11,11 @@ use Rattle.machine.specs.Store.{framed}
 use Rattle.machine.specs.Cpu.{Cpu}
 use Rattle.machine.specs.Step.{step}
 use Rattle.machine.specs.Machine.{opsFor}
-use Rattle.fields.proofs.Loops.{pred-suc}
+use Rattle.fields.proofs.ByteLoops.{pred-suc}
 use Rattle.actions.specs.declared.Now.{Now}
 use Rattle.actions.specs.declared.Out.{Out}
 use Rattle.actions.specs.declared.Out.the-variants.{Done, Stop}
-use Rattle.actions.specs.Told.{cpuOf, told, doing}
+use Rattle.actions.specs.Answered.{cpuOf, told, doing}
 use Rattle.engine.specs.Entry.{ranAs}
 
 -- n steps more

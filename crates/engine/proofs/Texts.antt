@@ -28,7 +28,7 @@ use Rattle.machine.specs.Si.{si}
 use Rattle.machine.specs.Ss.{ss}
 use Rattle.machine.specs.Fields.{halfword}
 use Rattle.machine.specs.Step.{step, known, act}
-use Rattle.machine.proofs.Late.{onStore}
+use Rattle.machine.proofs.MarksLast.{onStore}
 use Rattle.code.specs.declared.Action.the-variants.{Rr, Rx, Rs, Si, Ss}
 use Rattle.code.specs.declared.Found.{Found}
 use Rattle.code.specs.declared.Found.the-variants.{Known, Unknown}
@@ -38,11 +38,11 @@ use Rattle.fields.specs.Direct.{lookField, lookOne, readField}
 use Rattle.actions.specs.declared.Now.{Now}
 use Rattle.actions.specs.declared.Out.{Out}
 use Rattle.actions.specs.declared.Out.the-variants.{Done, Stop}
-use Rattle.actions.specs.Told.{cpuOf, told, doing, refusalOf}
+use Rattle.actions.specs.Answered.{cpuOf, told, doing, refusalOf}
 use Rattle.engine.specs.declared.Text.{Text}
 use Rattle.engine.specs.declared.Text.the-variants as T
 use Rattle.engine.specs.Entry.{past, halves, halvesOf, orStop, unless, lookHalf, furtherOf, wholeOf, textOf, actWhole, whole, markFurther, markHalves, markedText}
-use Rattle.engine.proofs.Halfwords.{marks, comesTo, comes-plain, half-comes}
+use Rattle.engine.proofs.Halfwords.{marks, comesTo, comes-unchanged, half-comes}
 
 -- the store with the marks of the further halfwords, and of all
 abbrev further-marks : ℕ → ℕ → Framed → Framed
@@ -62,7 +62,7 @@ module _ (regs : List ℕ) (c : Now) (mem map : List ℕ) where
 
   nothing-more : (x : Answer Cpu Framed) → x ≡ comesTo (wholeOf (framedOf mem map) (c .pc)) (λ u. u) x (framedOf mem map)
   nothing-more x =
-      comes-plain (readField (framedOf mem map) (c .pc) 2 0) (readField (framedOf mem map) (past (c .pc) 2) 2 0) (readField (framedOf mem map) (past (c .pc) 4) 2 0) x (framedOf mem map)
+      comes-unchanged (readField (framedOf mem map) (c .pc) 2 0) (readField (framedOf mem map) (past (c .pc) 2) 2 0) (readField (framedOf mem map) (past (c .pc) 4) 2 0) x (framedOf mem map)
 
   -- the halfwords after the first
   further-comes : (f : Found) (h1 : ℕ)

@@ -19,8 +19,8 @@ use Rattle.pages.specs.Word.{bitG, bitE, base, real, wordOf, pageOf, dispOf, ac
 use Rattle.pages.specs.Tests.{Verdict, fine, bad}
 use Rattle.pages.specs.Look.{verdictOf}
 use Rattle.pages.specs.Framed.{Framed, framedOf, accessedAt, writtenAt, lookIn, noted, readByte, writeByte, writeAt}
-use Rattle.pages.specs.Plain.{ordinary, plain, realOf}
-use Rattle.pages.proofs.PlainLaws.{left-of, right-of}
+use Rattle.pages.specs.Compact.{ordinary, compact, realOf}
+use Rattle.pages.proofs.CompactLaws.{left-of, right-of}
 use Rattle.pages.proofs.Marks.{Quiet, changed, accessed-quiet, written-quiet, base-quiet, accessed-old}
 use Rattle.machine.specs.Prog.{Prog, done, fail, look, get, put, Answer, finished, refused, after, interp}
 use Rattle.machine.specs.Store.{framed}
@@ -29,7 +29,7 @@ use Rattle.machine.specs.Step.{step}
 use Rattle.actions.specs.declared.Now.{Now}
 use Rattle.actions.specs.declared.Out.{Out}
 use Rattle.actions.specs.declared.Out.the-variants.{Done, Stop}
-use Rattle.actions.specs.Told.{cpuOf, told, doing}
+use Rattle.actions.specs.Answered.{cpuOf, told, doing}
 use Rattle.engine.specs.declared.Window.{Window}
 use Rattle.engine.specs.Entry.{Held, Ready, inside, whole, markedText}
 use Rattle.engine.proofs.Runs.{was-done}
@@ -181,9 +181,9 @@ module _ (w : Window) (mem map : List ℕ) (ready : Ready w map (length mem)) (p
   pub window-small : w .base < 266240
   window-small = held .small
 
-  pub window-plain : true ≡ plain map (length mem) Fetch pc 6
-  unfolding plain
-  window-plain =
+  pub window-compact : true ≡ compact map (length mem) Fetch pc 6
+  unfolding compact
+  window-compact =
       let i : realOf map pc + 6 ≤ length mem = omega (arith, real-there, held .room, six-left) in
       rw (lt-ltb pc 2097152 below, le-leb (pc % 4096 + 6) 4096 (omega (arith, six-left)), held .fair, le-leb (realOf map pc + 6) (length mem) i)
 
@@ -203,9 +203,9 @@ pub shut-ready : (w : Window) (map : List ℕ) (size : ℕ) → w .len ≡ 0 →
 shut-ready w map size e = λ l. absurd (omega arith)
 
 pub open-ready : (map : List ℕ) (size page first : ℕ) (s b : Bool) (r : ℕ) → first ≡ page * 4096
-    → s ≡ eqb (bitG (wordOf map page)) 1 → s ≡ true → b ≡ plain map size Fetch first 4096 → b ≡ true → r ≡ realOf map first → r < 266240
+    → s ≡ eqb (bitG (wordOf map page)) 1 → s ≡ true → b ≡ compact map size Fetch first 4096 → b ≡ true → r ≡ realOf map first → r < 266240
     → Ready (record { first = first; len = 4091; base = r }) map size
-unfolding plain
+unfolding compact
 open-ready map size page first s b r ef es ts eb tb er sm =
     λ l. (low, omega (arith, ef), omega arith, record { fair = ordinarily; seen = ap (λ (x : ℕ). bitG (wordOf map x)) at-page ∙ eqb-true (bitG (wordOf map page)) 1 (sym es ∙ ts); there = stands; room = fitting; small = sm })
   where

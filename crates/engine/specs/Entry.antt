@@ -2,13 +2,14 @@
 -- and the answers of a step and a run.
 use Prim.Native.Nat.{ℕ, _+_, _-_, _%_, _<_, _≤_}
 use mathlib.Core.Path.{_≡_}
-use mathlib.Core.List.{List}
+use mathlib.Core.List.{List, [], _∷_}
 use mathlib.Core.Bool.{Bool, true}
 use lib.Dec.{eqb, leb, ltb}
 use lib.ListN.{length}
 use Rattle.words.specs.Pick.{pick, both}
+use Rattle.words.specs.Said.{Said, says}
 use Rattle.pages.specs.Word.{bitG, base, pageOf, wordOf}
-use Rattle.pages.specs.Plain.{ordinary}
+use Rattle.pages.specs.Compact.{ordinary}
 use Rattle.pages.specs.declared.Access.the-variants.{Fetch}
 use Rattle.pages.specs.declared.Look.{Look}
 use Rattle.pages.specs.declared.Look.the-variants.{At, Refused}
@@ -32,11 +33,16 @@ use Rattle.machine.specs.Ss.{ss}
 use Rattle.actions.specs.declared.Now.{Now}
 use Rattle.actions.specs.declared.Out.{Out}
 use Rattle.actions.specs.declared.Out.the-variants.{Done, Stop}
-use Rattle.actions.specs.Told.{cpuOf}
+use Rattle.actions.specs.Answered.{cpuOf}
 use Rattle.engine.specs.declared.Text.{Text}
 use Rattle.engine.specs.declared.Text.the-variants as T
 use Rattle.engine.specs.declared.Ran.{Ran}
 use Rattle.engine.specs.declared.Window.{Window}
+
+-- the enum's cases in document 01's terms: the three halfwords, or a refusal's number and place
+abbrev pub textSays : Text → Said (List ℕ)
+textSays (T.Whole h1 h2 h3) = says 0 (h1 ∷ h2 ∷ h3 ∷ [])
+textSays (T.Stop n a) = says n (a ∷ [])
 
 -- the address n bytes past pc
 abbrev pub past : ℕ → ℕ → ℕ

@@ -49,7 +49,7 @@ fn open(mem: &[u8], map: &[u16], pc: u32) -> Window
     let page = pc / 4096;
     let first = page * 4096;
     if is_seen(map, page) {
-        if pages::is_plain(map, mem.len(), Access::Fetch, first, 4096) {
+        if pages::is_compact(map, mem.len(), Access::Fetch, first, 4096) {
             return Window {
                 first: first,
                 len: 4091,

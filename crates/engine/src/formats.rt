@@ -9,7 +9,7 @@ use pages::Look;
 ghost use mathlib.Core.Path.{_≡_};
 ghost use Prim.Native.Nat.{_<_};
 ghost use Rattle.pages.specs.Framed.{framedOf};
-ghost use Rattle.actions.specs.Told.{told, doing};
+ghost use Rattle.actions.specs.Answered.{told, doing};
 ghost use Rattle.engine.specs.Entry.{past, halvesOf, orStop, unless, lookHalf, textOf, whole, markHalf, markHalves, markedText};
 
 // The address so many bytes past the counter.
@@ -94,11 +94,11 @@ fn text_each(mem: &[u8], map: &[u16], pc: u32) -> Text
     checked(mem, map, pc, true, from_second)
 }
 
-// The halfwords from the counter on: by one look-up where the six bytes are plain. Those that the operation lacks are read with the rest.
+// The halfwords from the counter on: by one look-up where the six bytes are compact. Those that the operation lacks are read with the rest.
 pub fn text(mem: &[u8], map: &[u16], pc: u32) -> Text
     ensures { λ r. ⌜ r ≡ textOf (framedOf (now (mem .entry)) (now (map .entry))) pc ⌝ }
 {
-    if pages::is_plain(map, mem.len(), Access::Fetch, pc, 6) {
+    if pages::is_compact(map, mem.len(), Access::Fetch, pc, 6) {
         let r = pages::real_at(map, pc);
         let h1 = fields::flat::half_of(mem, r);
         let h2 = fields::flat::half_of(mem, r + 2);

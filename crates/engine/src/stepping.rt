@@ -12,7 +12,7 @@ ghost use Rattle.pages.specs.Framed.{framedOf};
 ghost use Rattle.machine.specs.Run.{run};
 ghost use Rattle.machine.specs.Step.{step};
 ghost use Rattle.machine.specs.Machine.{opsFor};
-ghost use Rattle.actions.specs.Told.{cpuOf, told, doing};
+ghost use Rattle.actions.specs.Answered.{cpuOf, told, doing};
 ghost use lib.ListN.{length};
 ghost use Rattle.engine.specs.Entry.{Ready, ranAs};
 

@@ -19,7 +19,7 @@ use Rattle.pages.proofs.LookLaws.{refused-place}
 use Rattle.machine.specs.Prog.{Prog, look, Answer, finished, refused, after, interp}
 use Rattle.machine.specs.Fields.{looks, gets, puts, moves, compares}
 use Rattle.machine.specs.Store.{framed}
-use Rattle.machine.proofs.Late.{blind}
+use Rattle.machine.proofs.MarksLast.{blind}
 use Rattle.fields.specs.Direct.{orElse, lookField, noteField, readField, writeField, moveField, compareField}
 
 -- what follows a look-up of a field: a refusal, or the rest

@@ -17,21 +17,21 @@ use Rattle.pages.specs.declared.Cause.the-variants.{Addressing, PagingQueue, Pa
 use Rattle.pages.specs.declared.Look.{Look}
 use Rattle.pages.specs.declared.Look.the-variants.{At, Refused}
 use Rattle.pages.specs.Word.{pageOf, dispOf, next, base, real, wordOf, bitU, bitS, bitE, bitM, bitsX, accessed}
-use Rattle.pages.specs.Tests.{Verdict, fine, bad, tests, table, isStore}
-use Rattle.pages.specs.Look.{lookOf, within}
+use Rattle.pages.specs.Tests.{Verdict, fine, bad, tests, sixTests, isStore}
+use Rattle.pages.specs.Look.{lookOf, testSeven}
 use Rattle.pages.specs.Framed.{Framed, framedOf, accessedAt, writtenAt, readByte, writeByte, readAt, writeAt}
 use Rattle.pages.proofs.LookLaws.{found-less}
-use Rattle.pages.specs.Plain.{realOf, plain}
+use Rattle.pages.specs.Compact.{realOf, compact}
 use Rattle.pages.proofs.Marks.{accessed-quiet, look-quiet}
 use Rattle.code.specs.declared.Width.{Width}
 use Rattle.code.specs.declared.Width.the-variants.{Word, Half, Byte}
 use Rattle.machine.specs.Fields.{bytesOf}
 use Rattle.fields.specs.Direct.{orElse, lookField, lookOne, noteField, readField, writeField, flat, flatPut}
-use Rattle.fields.proofs.Once.{note-once}
-use Rattle.fields.proofs.Together.{Lies, lies-look, lies-read, lies-put, lies-inside, plain-lies}
+use Rattle.fields.proofs.MarkedOnce.{note-once}
+use Rattle.fields.proofs.Together.{Lies, lies-look, lies-read, lies-put, lies-inside, compact-lies}
 
 -- what is found is found at its real address, below 2,097,152
-within-real : (v : Verdict) (x n a r : ℕ) → within v x n a ≡ At r → x ≡ r
+within-real : (v : Verdict) (x n a r : ℕ) → testSeven v x n a ≡ At r → x ≡ r
 within-real (bad c) x n a r e = absurd (let z : _≡_ {A = ℕ} 0 1 = cc in omega arith)
 within-real fine x n a r e = go (ltb x n) e
   where
@@ -45,19 +45,19 @@ found-real map n acc a r e =
     within-real (tests acc a (wordOf map (pageOf a))) (real (wordOf map (pageOf a)) (dispOf a)) n a r e
 
 pub found-below : (map : List ℕ) (n : ℕ) (acc : Access) (a r : ℕ) → lookOf map n acc a ≡ At r → a < 2097152
-unfolding lookOf tests table
+unfolding lookOf tests sixTests
 found-below map n acc a r e = go (leb 2097152 a) refl e
   where
     go : (b : Bool) → leb 2097152 a ≡ b
-        → within (pick b (bad Addressing) (pick (eqb (bitU (wordOf map (pageOf a))) 0) (bad PagingQueue) (pick (ltb 0 (bitsX (wordOf map (pageOf a)))) (bad PagingError) (pick (both (eqb (bitM (wordOf map (pageOf a))) 1) (leb 2048 (dispOf a))) (bad PagingError) (pick (eqb (bitS (wordOf map (pageOf a))) 0) (bad PagingError) (pick (both (eqb (bitE (wordOf map (pageOf a))) 1) (isStore acc)) (bad PagingError) fine)))))) (real (wordOf map (pageOf a)) (dispOf a)) n a ≡ At r
+        → testSeven (pick b (bad Addressing) (pick (eqb (bitU (wordOf map (pageOf a))) 0) (bad PagingQueue) (pick (ltb 0 (bitsX (wordOf map (pageOf a)))) (bad PagingError) (pick (both (eqb (bitM (wordOf map (pageOf a))) 1) (leb 2048 (dispOf a))) (bad PagingError) (pick (eqb (bitS (wordOf map (pageOf a))) 0) (bad PagingError) (pick (both (eqb (bitE (wordOf map (pageOf a))) 1) (isStore acc)) (bad PagingError) fine)))))) (real (wordOf map (pageOf a)) (dispOf a)) n a ≡ At r
         → a < 2097152
     go true t k = absurd (let z : _≡_ {A = ℕ} 0 1 = cc in omega arith)
     go false t k = leb-false 2097152 a t
 
 -- what may be stored to may be read
 store-load : (b1 b2 b3 b4 b5 e : Bool) (x n a r : ℕ)
-    → within (pick b1 (bad Addressing) (pick b2 (bad PagingQueue) (pick b3 (bad PagingError) (pick b4 (bad PagingError) (pick b5 (bad PagingError) (pick (both e true) (bad PagingError) fine)))))) x n a ≡ At r
-    → within (pick b1 (bad Addressing) (pick b2 (bad PagingQueue) (pick b3 (bad PagingError) (pick b4 (bad PagingError) (pick b5 (bad PagingError) (pick (both e false) (bad PagingError) fine)))))) x n a ≡ At r
+    → testSeven (pick b1 (bad Addressing) (pick b2 (bad PagingQueue) (pick b3 (bad PagingError) (pick b4 (bad PagingError) (pick b5 (bad PagingError) (pick (both e true) (bad PagingError) fine)))))) x n a ≡ At r
+    → testSeven (pick b1 (bad Addressing) (pick b2 (bad PagingQueue) (pick b3 (bad PagingError) (pick b4 (bad PagingError) (pick b5 (bad PagingError) (pick (both e false) (bad PagingError) fine)))))) x n a ≡ At r
 store-load true b2 b3 b4 b5 e x n a r k = k
 store-load false true b3 b4 b5 e x n a r k = k
 store-load false false true b4 b5 e x n a r k = k
@@ -67,7 +67,7 @@ store-load false false false false false true x n a r k = absurd (let z : _≡_ 
 store-load false false false false false false x n a r k = k
 
 pub any-load : (map : List ℕ) (n : ℕ) (acc : Access) (a r : ℕ) → lookOf map n acc a ≡ At r → lookOf map n Load a ≡ At r
-unfolding lookOf tests table
+unfolding lookOf tests sixTests
 any-load map n Fetch a r e = e
 any-load map n Load a r e = e
 any-load map n Store a r e =
@@ -202,10 +202,10 @@ lies-part map size acc a n r l d k h =
       page = λ e p. ap pageOf (omega arith) ∙ l .page (d + e) (omega arith) ∙ sym (l .page d (omega arith));
     }
 
--- a halfword of a plain field
-module _ (mem map : List ℕ) (acc : Access) (a n : ℕ) (b : Bool) (eb : b ≡ plain map (length mem) acc a n) (t : b ≡ true) (d : ℕ) (h : d + 2 ≤ n) where
+-- a halfword of a compact field
+module _ (mem map : List ℕ) (acc : Access) (a n : ℕ) (b : Bool) (eb : b ≡ compact map (length mem) acc a n) (t : b ≡ true) (d : ℕ) (h : d + 2 ≤ n) where
   half-lies : Lies map (length mem) acc (a + d) 2 (realOf map a + d)
-  half-lies = lies-part map (length mem) acc a n (realOf map a) (plain-lies map (length mem) acc a n b eb t) d 2 h
+  half-lies = lies-part map (length mem) acc a n (realOf map a) (compact-lies map (length mem) acc a n b eb t) d 2 h
 
   half-loads : Lies map (length mem) Load (a + d) 2 (realOf map a + d)
   half-loads =
@@ -215,14 +215,11 @@ module _ (mem map : List ℕ) (acc : Access) (a n : ℕ) (b : Bool) (eb : b ≡ 
         page = half-lies .page;
       }
 
-  pub plain-half-look : At (realOf map a + d) ≡ lookOne map (length mem) acc (a + d) 2
-  plain-half-look = lies-look map (length mem) acc (a + d) 2 (realOf map a + d) half-lies (omega arith)
+  pub compact-half-look : At (realOf map a + d) ≡ lookOne map (length mem) acc (a + d) 2
+  compact-half-look = lies-look map (length mem) acc (a + d) 2 (realOf map a + d) half-lies (omega arith)
 
-  pub plain-half-inside : realOf map a + d + 2 ≤ length mem
-  plain-half-inside = lies-inside map (length mem) acc (a + d) 2 (realOf map a + d) half-lies (omega arith)
-
-  pub plain-half-read : flat mem (realOf map a + d) 2 0 ≡ readField (framedOf mem map) (a + d) 2 0
-  plain-half-read = lies-read mem map (a + d) 2 (realOf map a + d) half-loads 0
+  pub compact-half-read : flat mem (realOf map a + d) 2 0 ≡ readField (framedOf mem map) (a + d) 2 0
+  compact-half-read = lies-read mem map (a + d) 2 (realOf map a + d) half-loads 0
 
 -- one byte
 pub one-byte : (map : List ℕ) (size : ℕ) (acc : Access) (a : ℕ) → lookOne map size acc a 1 ≡ lookOf map size acc a

@@ -1,6 +1,6 @@
-pub mod Loops
+pub mod ByteLoops
 pub mod Widths
 pub mod Bridge
-pub mod Once
+pub mod MarkedOnce
 pub mod Together
 pub mod Found

@@ -17,17 +17,17 @@ use Rattle.pages.specs.declared.Cause.the-variants.{Addressing, PagingQueue, Pa
 use Rattle.pages.specs.declared.Look.{Look}
 use Rattle.pages.specs.declared.Look.the-variants.{At, Refused}
 use Rattle.pages.specs.Word.{pageOf, dispOf, next, real, wordOf, bitU, bitS, bitE, bitM, bitsX, accessed, written}
-use Rattle.pages.specs.Tests.{Verdict, fine, bad, tests, table, isStore}
-use Rattle.pages.specs.Look.{lookOf, within}
+use Rattle.pages.specs.Tests.{Verdict, fine, bad, tests, sixTests, isStore}
+use Rattle.pages.specs.Look.{lookOf, testSeven}
 use Rattle.pages.specs.Framed.{Framed, framedOf, accessedAt, writtenAt, readByte, writeByte, readAt, writeAt}
-use Rattle.pages.specs.Plain.{realOf, plain}
+use Rattle.pages.specs.Compact.{realOf, compact}
 use Rattle.pages.proofs.LookLaws.{found-less}
-use Rattle.pages.proofs.PlainLaws.{plain-found, plain-next, plain-page, plain-some, plain-inside, plain-below}
+use Rattle.pages.proofs.CompactLaws.{compact-found, compact-next, compact-page, compact-some, compact-inside, compact-below}
 use Rattle.pages.proofs.Marks.{accessed-quiet, written-quiet, look-quiet}
 use Rattle.fields.specs.declared.Field.{Field}
 use Rattle.fields.specs.Direct.{orElse, lookField, lookFields, lookOne, noteField, readField, writeField, moveField, compareField, flat, flatPut, flatMove, flatCompare}
-use Rattle.fields.proofs.Once.{written-again}
-use Rattle.fields.proofs.Loops.{pred-suc}
+use Rattle.fields.proofs.MarkedOnce.{written-again}
+use Rattle.fields.proofs.ByteLoops.{pred-suc}
 
 -- n bytes from a on, found from r on
 pub record Lies (map : List ℕ) (size : ℕ) (acc : Access) (a n r : ℕ) : Type 0 where
@@ -188,58 +188,58 @@ module _ (mem map : List ℕ) (a b n r q : ℕ) (l : Lies map (length mem) Load 
       ∙ ap (λ (x : ℕ). compareField (framedOf mem map) x (b + 0) n) (add-zero a)
       ∙ ap (λ (x : ℕ). compareField (framedOf mem map) a x n) (add-zero b)
 
--- a plain field lies together
-pub plain-lies : (map : List ℕ) (size : ℕ) (acc : Access) (a n : ℕ) (b : Bool) → b ≡ plain map size acc a n → b ≡ true
+-- a compact field lies together
+pub compact-lies : (map : List ℕ) (size : ℕ) (acc : Access) (a n : ℕ) (b : Bool) → b ≡ compact map size acc a n → b ≡ true
     → Lies map size acc a n (realOf map a)
-plain-lies map size acc a n b eb t =
+compact-lies map size acc a n b eb t =
     record {
-      found = plain-found map size acc a n b eb t;
-      on = plain-next map size acc a n b eb t;
-      page = plain-page map size acc a n b eb t;
+      found = compact-found map size acc a n b eb t;
+      on = compact-next map size acc a n b eb t;
+      page = compact-page map size acc a n b eb t;
     }
 
--- the quick ways of the code: a field that was tested to be plain
-module _ (map : List ℕ) (size : ℕ) (acc : Access) (a n : ℕ) (b : Bool) (eb : b ≡ plain map size acc a n) (t : b ≡ true) (r : ℕ) (er : r ≡ realOf map a) where
-  pub plain-room : r + n ≤ size
-  plain-room = let i : realOf map a + n ≤ size = plain-inside map size acc a n b eb t in omega arith
+-- the quick ways of the code: a field that was tested to be compact
+module _ (map : List ℕ) (size : ℕ) (acc : Access) (a n : ℕ) (b : Bool) (eb : b ≡ compact map size acc a n) (t : b ≡ true) (r : ℕ) (er : r ≡ realOf map a) where
+  pub compact-room : r + n ≤ size
+  compact-room = let i : realOf map a + n ≤ size = compact-inside map size acc a n b eb t in omega arith
 
   here : Lies map size acc a n r
-  here = record { found = λ d h. plain-lies map size acc a n b eb t .found d h ∙ ap (λ (x : ℕ). At (x + d)) (sym er); on = plain-lies map size acc a n b eb t .on; page = plain-lies map size acc a n b eb t .page }
+  here = record { found = λ d h. compact-lies map size acc a n b eb t .found d h ∙ ap (λ (x : ℕ). At (x + d)) (sym er); on = compact-lies map size acc a n b eb t .on; page = compact-lies map size acc a n b eb t .page }
 
-  pub plain-look : At r ≡ lookOne map size acc a n
-  plain-look = lies-look map size acc a n r here (plain-some map size acc a n b eb t)
+  pub compact-look : At r ≡ lookOne map size acc a n
+  compact-look = lies-look map size acc a n r here (compact-some map size acc a n b eb t)
 
-pub plain-two : (map : List ℕ) (size : ℕ) (f g : Field) (x y : Bool)
-    → x ≡ plain map size (f .access) (f .at) (f .len) → x ≡ true → y ≡ plain map size (g .access) (g .at) (g .len) → y ≡ true
+pub compact-two : (map : List ℕ) (size : ℕ) (f g : Field) (x y : Bool)
+    → x ≡ compact map size (f .access) (f .at) (f .len) → x ≡ true → y ≡ compact map size (g .access) (g .at) (g .len) → y ≡ true
     → (r : ℕ) → r ≡ realOf map (f .at)
     → At r ≡ lookFields map size (f ∷ g ∷ []) (lookOf map size (f .access) (f .at))
 unfolding lookFields
-plain-two map size f g x y ex tx ey ty r er =
-    sym (lies-first map size (f .access) (f .at) (f .len) r (here map size (f .access) (f .at) (f .len) x ex tx r er) (plain-some map size (f .access) (f .at) (f .len) x ex tx))
-    ∙ sym (lies-clear map size (g .access) (g .at) (g .len) (realOf map (g .at)) (plain-lies map size (g .access) (g .at) (g .len) y ey ty) (lookOf map size (f .access) (f .at)))
+compact-two map size f g x y ex tx ey ty r er =
+    sym (lies-first map size (f .access) (f .at) (f .len) r (here map size (f .access) (f .at) (f .len) x ex tx r er) (compact-some map size (f .access) (f .at) (f .len) x ex tx))
+    ∙ sym (lies-clear map size (g .access) (g .at) (g .len) (realOf map (g .at)) (compact-lies map size (g .access) (g .at) (g .len) y ey ty) (lookOf map size (f .access) (f .at)))
     ∙ sym (lies-clear map size (f .access) (f .at) (f .len) r (here map size (f .access) (f .at) (f .len) x ex tx r er) (lookField map size (g .access) (g .at) (g .len) (lookOf map size (f .access) (f .at))))
 
-pub plain-read : (mem map : List ℕ) (a n : ℕ) (b : Bool) → b ≡ plain map (length mem) Load a n → b ≡ true → (r v : ℕ) → r ≡ realOf map a
+pub compact-read : (mem map : List ℕ) (a n : ℕ) (b : Bool) → b ≡ compact map (length mem) Load a n → b ≡ true → (r v : ℕ) → r ≡ realOf map a
     → v ≡ flat mem r n 0 → v ≡ readField (framedOf mem map) a n 0
-plain-read mem map a n b eb t r v er ev = ev ∙ lies-read mem map a n r (here map (length mem) Load a n b eb t r er) 0
+compact-read mem map a n b eb t r v er ev = ev ∙ lies-read mem map a n r (here map (length mem) Load a n b eb t r er) 0
 
-pub plain-write : (mem map : List ℕ) (a n : ℕ) (b : Bool) → b ≡ plain map (length mem) Store a n → b ≡ true → (r v : ℕ) → r ≡ realOf map a
+pub compact-write : (mem map : List ℕ) (a n : ℕ) (b : Bool) → b ≡ compact map (length mem) Store a n → b ≡ true → (r v : ℕ) → r ≡ realOf map a
     → (mem′ map′ : List ℕ) → mem′ ≡ flatPut mem r n v → map′ ≡ writtenAt map a → framedOf mem′ map′ ≡ writeField (framedOf mem map) a n v
-plain-write mem map a n b eb t r v er mem′ map′ em en =
+compact-write mem map a n b eb t r v er mem′ map′ em en =
     ap (λ (m : List ℕ). framedOf m map′) em
     ∙ ap (framedOf (flatPut mem r n v)) en
-    ∙ lies-put map (length mem) a n r (here map (length mem) Store a n b eb t r er) mem refl v (plain-some map (length mem) Store a n b eb t)
+    ∙ lies-put map (length mem) a n r (here map (length mem) Store a n b eb t r er) mem refl v (compact-some map (length mem) Store a n b eb t)
 
-module _ (mem map : List ℕ) (a b n : ℕ) (x y : Bool) (ey : y ≡ plain map (length mem) Load b n) (ty : y ≡ true) (r q : ℕ) (er : r ≡ realOf map a) (eq : q ≡ realOf map b) where
-  pub plain-move : x ≡ plain map (length mem) Store a n → x ≡ true → (mem′ map′ : List ℕ) → mem′ ≡ flatMove mem r q n → map′ ≡ writtenAt map a
+module _ (mem map : List ℕ) (a b n : ℕ) (x y : Bool) (ey : y ≡ compact map (length mem) Load b n) (ty : y ≡ true) (r q : ℕ) (er : r ≡ realOf map a) (eq : q ≡ realOf map b) where
+  pub compact-move : x ≡ compact map (length mem) Store a n → x ≡ true → (mem′ map′ : List ℕ) → mem′ ≡ flatMove mem r q n → map′ ≡ writtenAt map a
       → framedOf mem′ map′ ≡ moveField (framedOf mem map) a b n
-  plain-move ex tx mem′ map′ em en =
+  compact-move ex tx mem′ map′ em en =
       ap (λ (m : List ℕ). framedOf m map′) em
       ∙ ap (framedOf (flatMove mem r q n)) en
-      ∙ lies-move map (length mem) a b n r q (here map (length mem) Store a n x ex tx r er) (here map (length mem) Load b n y ey ty q eq) mem refl (plain-some map (length mem) Store a n x ex tx)
+      ∙ lies-move map (length mem) a b n r q (here map (length mem) Store a n x ex tx r er) (here map (length mem) Load b n y ey ty q eq) mem refl (compact-some map (length mem) Store a n x ex tx)
 
-  pub plain-compare : x ≡ plain map (length mem) Load a n → x ≡ true → (v : ℕ) → v ≡ flatCompare mem r q n → v ≡ compareField (framedOf mem map) a b n
-  plain-compare ex tx v ev = ev ∙ lies-compare mem map a b n r q (here map (length mem) Load a n x ex tx r er) (here map (length mem) Load b n y ey ty q eq)
+  pub compact-compare : x ≡ compact map (length mem) Load a n → x ≡ true → (v : ℕ) → v ≡ flatCompare mem r q n → v ≡ compareField (framedOf mem map) a b n
+  compact-compare ex tx v ev = ev ∙ lies-compare mem map a b n r q (here map (length mem) Load a n x ex tx r er) (here map (length mem) Load b n y ey ty q eq)
 
 -- the flat loops, a turn at a time
 pub flat-move-turn : (mem : List ℕ) (a b left : ℕ) → 0 < left → flatMove mem a b left ≡ flatMove (set mem a (getD mem b 0)) (a + 1) (b + 1) (left - 1)

@@ -56,25 +56,25 @@ fn look_each(map: &[u16], size: usize, first: Field, second: Field) -> Look
     found
 }
 
-// Two fields, at once where both are plain.
+// Two fields, at once where both are compact.
 pub fn look_two(map: &[u16], size: usize, first: Field, second: Field) -> Look
     ensures { λ r. ⌜ r ≡ lookFields (now (map .entry)) size (first ∷ second ∷ []) (lookOf (now (map .entry)) size (first .access) (first .at)) ⌝ }
 {
     let access = first.access;
     let other = second.access;
-    if pages::is_plain(map, size, access, first.at, first.len) {
-        if pages::is_plain(map, size, other, second.at, second.len) {
+    if pages::is_compact(map, size, access, first.at, first.len) {
+        if pages::is_compact(map, size, other, second.at, second.len) {
             return Look::At(pages::real_at(map, first.at));
         }
     }
     look_each(map, size, first, second)
 }
 
-// One field, at once where it is plain.
+// One field, at once where it is compact.
 pub fn look_one(map: &[u16], size: usize, access: Access, at: u32, len: u32) -> Look
     ensures { λ r. ⌜ r ≡ lookOne (now (map .entry)) size access at len ⌝ }
 {
-    if pages::is_plain(map, size, access, at, len) {
+    if pages::is_compact(map, size, access, at, len) {
         return Look::At(pages::real_at(map, at));
     }
     let field = Field {
@@ -158,7 +158,7 @@ fn half_each(mem: &[u8], map: &[u16], at: u32) -> u16
 pub fn read_half(mem: &[u8], map: &[u16], at: u32) -> u16
     ensures { λ r. ⌜ r ≡ readField (framedOf (now (mem .entry)) (now (map .entry))) at 2 0 ⌝ }
 {
-    if pages::is_plain(map, mem.len(), Access::Load, at, 2) {
+    if pages::is_compact(map, mem.len(), Access::Load, at, 2) {
         return flat::half_of(mem, pages::real_at(map, at));
     }
     half_each(mem, map, at)
@@ -175,7 +175,7 @@ fn word_each(mem: &[u8], map: &[u16], at: u32) -> u32
 pub fn read_word(mem: &[u8], map: &[u16], at: u32) -> u32
     ensures { λ r. ⌜ r ≡ readField (framedOf (now (mem .entry)) (now (map .entry))) at 4 0 ⌝ }
 {
-    if pages::is_plain(map, mem.len(), Access::Load, at, 4) {
+    if pages::is_compact(map, mem.len(), Access::Load, at, 4) {
         return flat::word_of(mem, pages::real_at(map, at));
     }
     word_each(mem, map, at)
@@ -203,7 +203,7 @@ fn word_put_each(mem: &mut [u8], map: &mut [u16], at: u32, v: u32)
 pub fn write_word(mem: &mut [u8], map: &mut [u16], at: u32, v: u32)
     ensures { λ _. ⌜ framedOf (now (mem .exit)) (now (map .exit)) ≡ writeField (framedOf (now (mem .entry)) (now (map .entry))) at 4 v ⌝ }
 {
-    if pages::is_plain(map, mem.len(), Access::Store, at, 4) {
+    if pages::is_compact(map, mem.len(), Access::Store, at, 4) {
         flat::put_word(mem, pages::real_at(map, at), v);
         pages::note_written(map, at);
         return;
@@ -211,12 +211,12 @@ pub fn write_word(mem: &mut [u8], map: &mut [u16], at: u32, v: u32)
     word_put_each(mem, map, at, v);
 }
 
-// At once where both fields are plain.
+// At once where both fields are compact.
 pub fn move_field(mem: &mut [u8], map: &mut [u16], to: u32, from: u32, len: u32)
     ensures { λ _. ⌜ framedOf (now (mem .exit)) (now (map .exit)) ≡ moveField (framedOf (now (mem .entry)) (now (map .entry))) to from len ⌝ }
 {
-    if pages::is_plain(map, mem.len(), Access::Store, to, len) {
-        if pages::is_plain(map, mem.len(), Access::Load, from, len) {
+    if pages::is_compact(map, mem.len(), Access::Store, to, len) {
+        if pages::is_compact(map, mem.len(), Access::Load, from, len) {
             let a = pages::real_at(map, to);
             let b = pages::real_at(map, from);
             move_flat(mem, a, b, len);
@@ -259,12 +259,12 @@ fn move_each(mem: &mut [u8], map: &mut [u16], to: u32, from: u32, len: u32)
     }
 }
 
-// The code of the first two bytes that differ, or 0: at once where both fields are plain.
+// The code of the first two bytes that differ, or 0: at once where both fields are compact.
 pub fn compare_field(mem: &[u8], map: &[u16], first: u32, second: u32, len: u32) -> u32
     ensures { λ r. ⌜ r ≡ compareField (framedOf (now (mem .entry)) (now (map .entry))) first second len ⌝ }
 {
-    if pages::is_plain(map, mem.len(), Access::Load, first, len) {
-        if pages::is_plain(map, mem.len(), Access::Load, second, len) {
+    if pages::is_compact(map, mem.len(), Access::Load, first, len) {
+        if pages::is_compact(map, mem.len(), Access::Load, second, len) {
             let a = pages::real_at(map, first);
             let b = pages::real_at(map, second);
             return compare_flat(mem, a, b, len);

@@ -13,10 +13,9 @@ use Rattle.words.specs.Codes.{signCode, zeroCode}
 use Rattle.words.specs.Combine.{signedResult, carried, combineOf, shiftedLeft}
 use Rattle.pages.specs.declared.Access.the-variants.{Load}
 use Rattle.pages.specs.declared.Look.{Look}
-use Rattle.pages.specs.declared.Look.the-variants.{At, Refused}
 use Rattle.pages.specs.Word.{bitU, bitS, bitE, bitM, bitH, bitsX, frame, pageOf, dispOf, next, base, real, wordOf, accessed, written}
 use Rattle.pages.specs.Tests as tests
-use Rattle.pages.specs.Look.{lookOf}
+use Rattle.pages.specs.Look.{lookSays, lookOf}
 use Rattle.pages.specs.Framed.{accessedAt, writtenAt, readByte, writeByte}
 use Rattle.code.specs.Table as code
 use Rattle.machine.specs.Prog.{interp}
@@ -34,7 +33,7 @@ use Rattle.machine.specs.Machine.{Given, Outcome, given, proper, stepOut
 -- the definitions that the cases compute
 unfoldable computes : Unit {0}
 unfolding signed kept overflows spread signCode zeroCode signedResult carried combineOf shiftedLeft
-    bitU bitS bitE bitM bitH bitsX frame pageOf dispOf next base real wordOf accessed written tests.table tests.tests lookOf
+    bitU bitS bitE bitM bitH bitsX frame pageOf dispOf next base real wordOf accessed written tests.sixTests tests.tests lookOf
     accessedAt writtenAt readByte writeByte code.table code.actionOf
     interp run looks gets puts moves loading storing halfword reg ahead part address chosen link lessOne branch
     rr taken rx rs ss act step proper stepOutcome runOutcome
@@ -74,8 +73,7 @@ moved o = seen 10 o ++ take 6 (drop 12296 (o .mem))
 
 -- a look-up's number and its real address, or the place of its refusal
 abbrev found : Look → List ℕ
-found (At r) = 0 ∷ r ∷ []
-found (Refused c a) = tests.numberOf c ∷ a ∷ []
+found l = lookSays l .number ∷ lookSays l .values ∷ []
 
 -- a load's look-up in memory of 65,536 bytes, with one page word
 abbrev looked : ℕ → ℕ → ℕ → List ℕ

@@ -1,4 +1,2 @@
-pub mod Late
-pub mod Behind
-pub mod Sure
+pub mod MarksLast
 mod Cases

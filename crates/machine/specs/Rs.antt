@@ -2,7 +2,7 @@
 use Prim.Native.Nat.{ℕ, zero, suc, _+_, _-_, _*_, _/_, _%_}
 use mathlib.Core.Bool.{Bool, not}
 use lib.Signed.{ltZ}
-use Rattle.words.specs.Whole.{word, signed}
+use Rattle.words.specs.Whole.{wordTop, signed}
 use Rattle.words.specs.Combine.{shiftedLeft, shiftedRight}
 use Rattle.pages.specs.declared.Access.the-variants.{Load, Store}
 use Rattle.code.specs.declared.RsFields.{RsFields}
@@ -20,7 +20,7 @@ rsAddress f c = address c 0 (f .b2) (f .d2)
 abbrev pub howMany : RsFields → ℕ
 howMany f = suc ((f .r3 + 16 - f .r1) % 16)
 
--- the register after r, and the address of the next word
+-- the register after r, and the address of the next wordTop
 abbrev pub nextReg : ℕ → ℕ
 nextReg r = (r + 1) % 16
 
@@ -45,7 +45,7 @@ unfoldable pub comparand : RsFields → Cpu → ℕ
 comparand f c = reg c (f .r3 / 2 * 2 + 1)
 
 unfoldable pub isHigh : RsFields → Cpu → Bool
-isHigh f c = ltZ (signed word (comparand f c)) (signed word (indexSum f c))
+isHigh f c = ltZ (signed wordTop (comparand f c)) (signed wordTop (indexSum f c))
 
 unfoldable pub rs : RsAction → RsFields → Cpu → Prog Cpu
 -- LM: L3538

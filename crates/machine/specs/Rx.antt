@@ -3,7 +3,7 @@ use Prim.Native.Nat.{ℕ, _+_, _*_, _/_}
 use mathlib.Core.Bool.{true}
 use Rattle.words.specs.declared.Res.{Res}
 use Rattle.words.specs.Whole.{spread}
-use Rattle.words.specs.Combine.{combineOf, plain}
+use Rattle.words.specs.Combine.{combineOf, resultOf}
 use Rattle.code.specs.declared.Operand.{Operand}
 use Rattle.code.specs.declared.Operand.the-variants.{WordWith, HalfSpread, ByteInserted}
 use Rattle.code.specs.declared.Width.{Width}
@@ -27,9 +27,9 @@ unfoldable pub taken : Operand → ℕ → ℕ → ℕ → Res
 -- L A S C AL SL CL N O X
 taken (WordWith op) a v cc = combineOf op a v cc
 -- LH: L3398. The sign is spread
-taken HalfSpread a v cc = plain (spread v) cc
+taken HalfSpread a v cc = resultOf (spread v) cc
 -- IC: L5005. The other 24 bits stay
-taken ByteInserted a v cc = plain (a / 256 * 256 + v) cc
+taken ByteInserted a v cc = resultOf (a / 256 * 256 + v) cc
 
 -- the operand's address
 abbrev pub rxAddress : RxFields → Cpu → ℕ

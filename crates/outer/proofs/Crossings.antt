@@ -9,13 +9,14 @@ use lib.ListN.{length, set, drop, drop-of-length-le}
 use lib.Seq.{sets-eq, lt-length-sets}
 use Rattle.words.specs.Pick.{pick}
 use Rattle.machine.specs.declared.Reply.{Reply}
-use Rattle.machine.specs.Machine.{outcome, stepOutcome, runOutcome}
+use Rattle.machine.specs.Machine.{Outcome, outcome, stepOutcome, runOutcome}
+use Rattle.demand.proofs.Calls.{run-clean, step-clean, run-pages, step-pages}
 use Rattle.printing.specs.declared.Text.{Text}
 use Rattle.printing.specs.Answer.{textOf}
 use Rattle.printing.specs.Writing.{Spot, spot, wrote}
-use Rattle.printing.proofs.Laid.{wrote-sets}
+use Rattle.printing.proofs.WrittenText.{wrote-sets}
 use Rattle.sheet.specs.Sheet.{answerOf}
-use Rattle.outer.specs.Crossing.{crossed, six, lent, handedBack, stepCrossed, runCrossed, sheetCrossed}
+use Rattle.outer.specs.Crossing.{Crossed, crossed, six, lent, handedBack, readOff, stepCrossed, StepMeets, runCrossed, RunMeets, sheetCrossed}
 
 -- six stores into six places
 all-six : (l : List ℕ) (a b c d e f : ℕ) → length l ≡ 6 → set (set (set (set (set (set l 0 a) 1 b) 2 c) 3 d) 4 e) 5 f ≡ a ∷ b ∷ c ∷ d ∷ e ∷ f ∷ []
@@ -69,6 +70,39 @@ module _ (mem map regs reply : List ℕ) where
         → crossed (r .number) mem′ map′ regs′ reply′ ≡ runCrossed budget mem map regs reply
     unfolding runCrossed
     run-back budget o = back ∙ rw (eq-eqb (length reply) 6 h) (ap handedBack o)
+
+-- what a caller reads off, where the reply has six places, is the outcome; so demands 1 and 3 hold of it
+abbrev read : Crossed → Outcome
+read x = readOff (x .mem) (x .map) (x .regs) (x .reply)
+
+module _ (mem map regs reply mem′ map′ regs′ reply′ : List ℕ) (n : ℕ) where
+  pub step-meets : crossed n mem′ map′ regs′ reply′ ≡ stepCrossed mem map regs reply
+      → (crossed n mem′ map′ regs′ reply′ ≡ stepCrossed mem map regs reply)
+      × (length reply ≡ 6 → StepMeets (lent mem map regs reply) (readOff mem′ map′ regs′ reply′))
+  step-meets e = (
+    e,
+    λ h.
+        let o : readOff mem′ map′ regs′ reply′ ≡ stepOutcome (lent mem map regs reply) =
+        ap read e ∙ unfold stepCrossed in rw (eq-eqb (length reply) 6 h) in
+        record {
+          clean = step-clean (lent mem map regs reply) (readOff mem′ map′ regs′ reply′) o;
+          pages = step-pages (lent mem map regs reply) (readOff mem′ map′ regs′ reply′) o;
+        },
+  )
+
+  pub run-meets : (budget : ℕ) → crossed n mem′ map′ regs′ reply′ ≡ runCrossed budget mem map regs reply
+      → (crossed n mem′ map′ regs′ reply′ ≡ runCrossed budget mem map regs reply)
+      × (length reply ≡ 6 → RunMeets budget (lent mem map regs reply) (readOff mem′ map′ regs′ reply′))
+  run-meets budget e = (
+    e,
+    λ h.
+        let o : readOff mem′ map′ regs′ reply′ ≡ runOutcome budget (lent mem map regs reply) =
+        ap read e ∙ unfold runCrossed in rw (eq-eqb (length reply) 6 h) in
+        record {
+          clean = run-clean budget (lent mem map regs reply) (readOff mem′ map′ regs′ reply′) o;
+          pages = run-pages budget (lent mem map regs reply) (readOff mem′ map′ regs′ reply′) o;
+        },
+  )
 
 module _ (sheet room : List ℕ) where
   pub room-away : (length room ≡ 8192 → ⊥) → record { bytes = room; len = 0 } ≡ sheetCrossed sheet room

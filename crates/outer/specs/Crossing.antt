@@ -5,7 +5,10 @@ use lib.Dec.{eqb}
 use lib.ListN.{length, getD}
 use Rattle.words.specs.Pick.{pick}
 use Rattle.machine.specs.declared.Reply.{Reply}
-use Rattle.machine.specs.Machine.{Given, Outcome, given, stepOutcome, runOutcome}
+use Rattle.machine.specs.Machine.{Given, Outcome, given, outcome, cpuIn, stepOutcome, runOutcome}
+use Rattle.demand.specs.Plain.{plainStep, plainRun}
+use Rattle.demand.specs.DemandOne.{CleanStep, CleanRun}
+use Rattle.demand.specs.DemandThree.{PagesKeep}
 use Rattle.printing.specs.declared.Text.{Text}
 use Rattle.printing.specs.Answer.{textOf}
 use Rattle.sheet.specs.Sheet.{answerOf}
@@ -44,6 +47,31 @@ stepCrossed mem map regs reply =
 unfoldable pub runCrossed : ℕ → List ℕ → List ℕ → List ℕ → List ℕ → Crossed
 runCrossed budget mem map regs reply =
     pick (eqb (length reply) 6) (handedBack (runOutcome budget (lent mem map regs reply))) (crossed 6 mem map regs reply)
+
+-- the outcome that a caller reads off what it has afterwards: the reply's six numbers, and the lists
+abbrev pub readOff : List ℕ → List ℕ → List ℕ → List ℕ → Outcome
+readOff mem map regs reply =
+    outcome
+    (record {
+      number = getD reply 0 0;
+      place = getD reply 1 0;
+      count = getD reply 2 0;
+      pc = getD reply 3 0;
+      code = getD reply 4 0;
+      mask = getD reply 5 0;
+    })
+    mem
+    map
+    regs
+
+-- Demands 1 and 3 of a linked step and a linked run, where the reply has six places: g is what was lent, o what is read off afterwards.
+pub record StepMeets (g : Given) (o : Outcome) : Type 0 where
+  pub clean : CleanStep g o
+  pub pages : PagesKeep g o (plainStep (cpuIn g))
+
+pub record RunMeets (budget : ℕ) (g : Given) (o : Outcome) : Type 0 where
+  pub clean : CleanRun budget g o
+  pub pages : PagesKeep g o (plainRun budget (cpuIn g))
 
 -- a sheet's answer with zeros after it, in a room of 8,192 bytes; a room of another size is left alone, with length 0
 unfoldable pub sheetCrossed : List ℕ → List ℕ → Text

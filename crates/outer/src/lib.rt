@@ -4,7 +4,7 @@ ghost use mathlib.Core.Path.{_≡_};
 ghost use lib.Dec.{eqb};
 ghost use lib.ListN.{length};
 ghost use Rattle.words.specs.Pick.{pick};
-ghost use Rattle.outer.specs.Crossing.{version, crossed, six, stepCrossed, runCrossed, sheetCrossed};
+ghost use Rattle.outer.specs.Crossing.{version, crossed, six, lent, readOff, stepCrossed, StepMeets, runCrossed, RunMeets, sheetCrossed};
 
 // The version of these functions, as one number: major × 65,536 + minor × 256 + patch.
 #[no_mangle]
@@ -28,7 +28,8 @@ fn put_reply(reply: &mut [u32], r: Reply)
     }
 }
 
-// One step. `reply` has counter, code and mask in its last three places, and on return all six numbers.
+// One step. `reply` has counter, code and mask in its last three places, and on return all six numbers. `whole` is the whole answer,
+// `demands` what demands 1 and 3 say of it.
 #[no_mangle]
 pub extern "C" fn spectra46_step(
     mem: &mut [u8],
@@ -36,7 +37,8 @@ pub extern "C" fn spectra46_step(
     regs: &mut [u32],
     reply: &mut [u32],
 ) -> u32
-    ensures { λ r. ⌜ crossed r (now (mem .exit)) (now (map .exit)) (now (regs .exit)) (now (reply .exit)) ≡ stepCrossed (now (mem .entry)) (now (map .entry)) (now (regs .entry)) (now (reply .entry)) ⌝ }
+    ensures whole { λ r. ⌜ crossed r (now (mem .exit)) (now (map .exit)) (now (regs .exit)) (now (reply .exit)) ≡ stepCrossed (now (mem .entry)) (now (map .entry)) (now (regs .entry)) (now (reply .entry)) ⌝ }
+    ensures demands { λ r. ⌜ (length (now (reply .entry)) ≡ 6 → StepMeets (lent (now (mem .entry)) (now (map .entry)) (now (regs .entry)) (now (reply .entry))) (readOff (now (mem .exit)) (now (map .exit)) (now (regs .exit)) (now (reply .exit)))) ⌝ }
 {
     if reply.len() != 6 {
         return 6;
@@ -55,7 +57,8 @@ pub extern "C" fn spectra46_run(
     reply: &mut [u32],
     budget: u32,
 ) -> u32
-    ensures { λ r. ⌜ crossed r (now (mem .exit)) (now (map .exit)) (now (regs .exit)) (now (reply .exit)) ≡ runCrossed budget (now (mem .entry)) (now (map .entry)) (now (regs .entry)) (now (reply .entry)) ⌝ }
+    ensures whole { λ r. ⌜ crossed r (now (mem .exit)) (now (map .exit)) (now (regs .exit)) (now (reply .exit)) ≡ runCrossed budget (now (mem .entry)) (now (map .entry)) (now (regs .entry)) (now (reply .entry)) ⌝ }
+    ensures demands { λ r. ⌜ (length (now (reply .entry)) ≡ 6 → RunMeets budget (lent (now (mem .entry)) (now (map .entry)) (now (regs .entry)) (now (reply .entry))) (readOff (now (mem .exit)) (now (map .exit)) (now (regs .exit)) (now (reply .exit)))) ⌝ }
 {
     if reply.len() != 6 {
         return 6;

@@ -1,4 +1,5 @@
 pub mod LookLaws
 pub mod StoreLaws
 pub mod Marks
-pub mod PlainLaws
+pub mod CompactLaws
+pub mod SaysOnce

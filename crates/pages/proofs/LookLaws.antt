@@ -13,40 +13,40 @@ use Rattle.pages.specs.declared.Cause.the-variants.{Addressing, PagingQu
 use Rattle.pages.specs.declared.Look.{Look}
 use Rattle.pages.specs.declared.Look.the-variants.{At, Refused}
 use Rattle.pages.specs.Word.{bitU, bitS, bitE, bitM, bitH, bitsX, pageOf, dispOf, base, real, wordOf}
-use Rattle.pages.specs.Tests.{Verdict, fine, bad, isStore, tests, table}
-use Rattle.pages.specs.Look.{lookOf, within}
+use Rattle.pages.specs.Tests.{Verdict, fine, bad, isStore, tests, sixTests}
+use Rattle.pages.specs.Look.{lookOf, testSeven}
 
 module _ (map : List ℕ) (n : ℕ) (acc : Access) (a : ℕ) where
   pub look-1 : 2097152 ≤ a → Refused Addressing a ≡ lookOf map n acc a
-  unfolding lookOf tests table
+  unfolding lookOf tests sixTests
   look-1 h = rw (le-leb 2097152 a h)
 
   module _ (h1 : a < 2097152) (w : ℕ) (ew : w ≡ wordOf map (pageOf a)) where
     pub look-2 : bitU w ≡ 0 → Refused PagingQueue a ≡ lookOf map n acc a
-    unfolding lookOf tests table
+    unfolding lookOf tests sixTests
     look-2 h = rw (lt-leb 2097152 a h1, ← ew, eq-eqb (bitU w) 0 h)
 
     module _ (h2 : bitU w ≡ 0 → ⊥) where
       pub look-3 : 0 < bitsX w → Refused PagingError a ≡ lookOf map n acc a
-      unfolding lookOf tests table
+      unfolding lookOf tests sixTests
       look-3 h = rw (lt-leb 2097152 a h1, ← ew, ne-eqb (bitU w) 0 h2, lt-ltb 0 (bitsX w) h)
 
       module _ (h3 : bitsX w ≤ 0) (b : Bool) (eb : b ≡ both (eqb (bitM w) 1) (leb 2048 (dispOf a))) where
         pub look-4 : b ≡ true → Refused PagingError a ≡ lookOf map n acc a
-        unfolding lookOf tests table
+        unfolding lookOf tests sixTests
         look-4 h =
             rw (lt-leb 2097152 a h1, ← ew, ne-eqb (bitU w) 0 h2, le-ltb 0 (bitsX w) h3, ← eb, h)
 
         module _ (h4 : b ≡ false) where
           pub look-5 : bitS w ≡ 0 → Refused PagingError a ≡ lookOf map n acc a
-          unfolding lookOf tests table
+          unfolding lookOf tests sixTests
           look-5 h =
               rw
               (lt-leb 2097152 a h1, ← ew, ne-eqb (bitU w) 0 h2, le-ltb 0 (bitsX w) h3, ← eb, h4, eq-eqb (bitS w) 0 h)
 
           module _ (h5 : bitS w ≡ 0 → ⊥) (d : Bool) (ed : d ≡ both (eqb (bitE w) 1) (isStore acc)) where
             pub look-6 : d ≡ true → Refused PagingError a ≡ lookOf map n acc a
-            unfolding lookOf tests table
+            unfolding lookOf tests sixTests
             look-6 h =
                 rw
                 (lt-leb 2097152 a h1, ← ew, ne-eqb (bitU w) 0 h2, le-ltb 0 (bitsX w) h3, ← eb, h4, ne-eqb (bitS w) 0 h5, ← ed, h)
@@ -57,19 +57,19 @@ module _ (map : List ℕ) (n : ℕ) (acc : Access) (a : ℕ) where
               is-real = rw ef at er
 
               pub look-7 : r < n → At r ≡ lookOf map n acc a
-              unfolding lookOf tests table
+              unfolding lookOf tests sixTests
               look-7 h =
                   rw
                   (lt-leb 2097152 a h1, ← ew, ne-eqb (bitU w) 0 h2, le-ltb 0 (bitsX w) h3, ← eb, h4, ne-eqb (bitS w) 0 h5, ← ed, h6, ← is-real, lt-ltb r n h)
 
               pub look-8 : n ≤ r → Refused Addressing a ≡ lookOf map n acc a
-              unfolding lookOf tests table
+              unfolding lookOf tests sixTests
               look-8 h =
                   rw
                   (lt-leb 2097152 a h1, ← ew, ne-eqb (bitU w) 0 h2, le-ltb 0 (bitsX w) h3, ← eb, h4, ne-eqb (bitS w) 0 h5, ← ed, h6, ← is-real, le-ltb r n h)
 
 -- a byte that is found lies in memory
-within-less : (v : Verdict) (r n a i : ℕ) → within v r n a ≡ At i → i < n
+within-less : (v : Verdict) (r n a i : ℕ) → testSeven v r n a ≡ At i → i < n
 within-less (bad c) r n a i h = absurd (let z : _≡_ {A = ℕ} 0 1 = cc in omega arith)
 within-less fine r n a i h = go (ltb r n) refl h
   where
@@ -83,7 +83,7 @@ found-less map n acc a found i e h =
     within-less (tests acc a (wordOf map (pageOf a))) (real (wordOf map (pageOf a)) (dispOf a)) n a i (sym e ∙ h)
 
 -- a refusal's place is the byte's own address
-within-place : (v : Verdict) (r n a : ℕ) (c : Cause) (p : ℕ) → within v r n a ≡ Refused c p → a ≡ p
+within-place : (v : Verdict) (r n a : ℕ) (c : Cause) (p : ℕ) → testSeven v r n a ≡ Refused c p → a ≡ p
 within-place (bad d) r n a c p h = cc
 within-place fine r n a c p h = go (ltb r n) h
   where

@@ -6,12 +6,12 @@ use native.Mathlib.Decide.{ℕ-discrete, decLt}
 use mathlib.Core.Path.{_≡_, refl, sym, _∙_, ap, subst}
 use mathlib.Core.Logic.{_≢_}
 use mathlib.Core.List.{List}
-use lib.ListN.{length, getD, set, length-set, List·getD-eq-default}
+use lib.ListN.{length, getD, set, List·getD-eq-default}
 use lib.Seq.{getD-set-same, getD-set-other, set-out, set-set, set-comm, set-getD}
 use Rattle.pages.specs.declared.Access.{Access}
-use Rattle.pages.specs.Word.{bitU, bitS, bitE, bitM, bitH, bitsX, frame, base, size, real, wordOf, pageOf, dispOf, accessed, written}
-use Rattle.pages.specs.Tests.{tests, table}
-use Rattle.pages.specs.Look.{lookOf, within}
+use Rattle.pages.specs.Word.{bitU, bitS, bitE, bitM, bitH, bitsX, frame, base, real, wordOf, pageOf, dispOf, accessed, written}
+use Rattle.pages.specs.Tests.{tests, sixTests}
+use Rattle.pages.specs.Look.{lookOf, testSeven}
 use Rattle.pages.specs.Framed.{accessedAt, writtenAt}
 
 -- a change of a word that leaves all but W and G
@@ -47,16 +47,12 @@ written-quiet = low written (λ w. omega arith)
 
 module _ (f : ℕ → ℕ) (q : Quiet f) where
   pub tests-quiet : (acc : Access) (a w : ℕ) → tests acc a (f w) ≡ tests acc a w
-  unfolding tests table
+  unfolding tests sixTests
   tests-quiet acc a w = rw (q .u w, q .x w, q .m w, q .s w, q .e w)
 
   pub base-quiet : (w : ℕ) → base (f w) ≡ base w
   unfolding base
   base-quiet w = rw (q .p w, q .m w, q .h w)
-
-  pub size-quiet : (w : ℕ) → size (f w) ≡ size w
-  unfolding size
-  size-quiet w = rw (q .m w)
 
   pub real-quiet : (d w : ℕ) → real (f w) d ≡ real w d
   unfolding real
@@ -92,9 +88,6 @@ unfolding lookOf
 look-quiet f q map p n acc a =
     rw
     (changed-keeps f (λ (w : ℕ). tests acc a w) (tests-quiet f q acc a) map p (pageOf a), changed-keeps f (λ (w : ℕ). real w (dispOf a)) (real-quiet f q (dispOf a)) map p (pageOf a))
-
-pub changed-length : (f : ℕ → ℕ) (p : ℕ) (map : List ℕ) → length (changed f p map) ≡ length map
-changed-length f p map = length-set map p (f (wordOf map p))
 
 -- two changes that commute on a word commute on the map
 pub changed-comm : (f g : ℕ → ℕ) → ((w : ℕ) → f (g w) ≡ g (f w)) → (p r : ℕ) (map : List ℕ)

@@ -30,7 +30,7 @@ lookIn s acc a = lookOf (s .map) (length (s .mem)) acc a
 abbrev pub noted : Framed → ℕ → Framed
 noted s a = framedOf (s .mem) (accessedAt (s .map) a)
 
--- the byte at a; 0 where the look-up refuses (no program reads such a byte: see machine/proofs/Behind)
+-- the byte at a; 0 where the look-up refuses (no program reads such a byte: see demand/proofs/LookedUpFirst)
 abbrev pub readAt : List ℕ → Look → ℕ
 readAt mem (At r) = getD mem r 0
 readAt mem (Refused c a) = 0

@@ -3,4 +3,4 @@ pub mod Word
 pub mod Tests
 pub mod Look
 pub mod Framed
-pub mod Plain
+pub mod Compact

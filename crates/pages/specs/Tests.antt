@@ -10,7 +10,7 @@ use Rattle.pages.specs.declared.Cause.{Cause}
 use Rattle.pages.specs.declared.Cause.the-variants.{Addressing, PagingQueue, PagingError}
 use Rattle.pages.specs.Word.{bitU, bitS, bitE, bitM, bitsX, dispOf}
 
--- what document 01's table calls each cause
+-- what document 01's sixTests calls each cause
 abbrev pub numberOf : Cause → ℕ
 numberOf Addressing = 1
 numberOf PagingQueue = 3
@@ -31,8 +31,8 @@ abbrev pub test : Bool → Cause → Test
 test b c = record { fails = b; cause = c }
 
 -- the six tests for an access to address a, in a page with word w
-unfoldable pub table : Access → ℕ → ℕ → List Test
-table acc a w =
+unfoldable pub sixTests : Access → ℕ → ℕ → List Test
+sixTests acc a w =
     test (leb 2097152 a) Addressing
     ∷ test (eqb (bitU w) 0) PagingQueue
     ∷ test (ltb 0 (bitsX w)) PagingError
@@ -51,4 +51,4 @@ firstBad [] = fine
 firstBad (t ∷ ts) = pick (t .fails) (bad (t .cause)) (firstBad ts)
 
 unfoldable pub tests : Access → ℕ → ℕ → Verdict
-tests acc a w = firstBad (table acc a w)
+tests acc a w = firstBad (sixTests acc a w)

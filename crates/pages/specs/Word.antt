@@ -7,9 +7,6 @@ use lib.ListN.{getD, set}
 use Rattle.words.specs.Pick.{pick, both}
 
 -- W written into, G accessed, U usable, S nonprivileged page, E not to be written, M a 2,048-byte page, H the upper half
-unfoldable pub bitW : ℕ → ℕ
-bitW w = w / 32768 % 2
-
 unfoldable pub bitG : ℕ → ℕ
 bitG w = w / 16384 % 2
 

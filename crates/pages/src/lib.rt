@@ -7,7 +7,7 @@ ghost use Rattle.words.specs.Pick.{both};
 ghost use Rattle.pages.specs.Word.{next, pageOf, dispOf, wordOf, base, bitM, bitE, accessed, written};
 ghost use Rattle.pages.specs.Tests.{isStore};
 ghost use Rattle.pages.specs.Look.{lookOf};
-ghost use Rattle.pages.specs.Plain.{realOf, ordinary, plain};
+ghost use Rattle.pages.specs.Compact.{realOf, ordinary, compact};
 ghost use Rattle.pages.specs.Framed.{framedOf, accessedAt, writtenAt, readByte, writeByte};
 
 // What a byte is wanted for.
@@ -108,8 +108,8 @@ fn is_ordinary(w: u16, access: Access) -> bool
 }
 
 // Whether a field lies whole in one ordinary page, and in a memory of n bytes: then it needs no byte-by-byte look-up.
-pub fn is_plain(map: &[u16], n: usize, access: Access, a: u32, len: u32) -> bool
-    ensures { λ r. ⌜ r ≡ plain (now (map .entry)) n access a len ⌝ }
+pub fn is_compact(map: &[u16], n: usize, access: Access, a: u32, len: u32) -> bool
+    ensures { λ r. ⌜ r ≡ compact (now (map .entry)) n access a len ⌝ }
 {
     if len == 0 {
         return false;

@@ -4,7 +4,7 @@ use mathlib.Core.List.{List, [], _∷_, map}
 use Prim.Native.Nat.{ℕ}
 use lib.ListN.{replicate, set}
 use Rattle.printing.specs.Ascii.{ascii}
-use Rattle.printing.specs.Digits.{hexOf, decimalOf, digitsOf, digit, bare}
+use Rattle.printing.specs.Digits.{hexOf, decimalOf, digitsOf, digit, trimmed}
 use Rattle.printing.specs.Lines.{badLine, stopLine, regLine, startLine, pageLine}
 use Rattle.printing.specs.Answer.{answerText, regsFrom, pagesFrom, regPart, pagePart}
 
@@ -41,5 +41,5 @@ table =
     ∷ []
 
 all-right : map (λ (k : Case). k .given) table ≡ map (λ (k : Case). k .said) table
-unfolding table answerText stopLine regLine startLine pageLine badLine regsFrom pagesFrom regPart pagePart decimalOf digitsOf digit bare
+unfolding table answerText stopLine regLine startLine pageLine badLine regsFrom pagesFrom regPart pagePart decimalOf digitsOf digit trimmed
 all-right = refl

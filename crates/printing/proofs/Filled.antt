@@ -9,7 +9,7 @@ use lib.Seq.{sets-eq}
 use Rattle.printing.specs.declared.Text.{Text}
 use Rattle.printing.specs.Answer.{textOf}
 use Rattle.printing.specs.Writing.{Spot, spot, wrote}
-use Rattle.printing.proofs.Laid.{wrote-sets}
+use Rattle.printing.proofs.WrittenText.{wrote-sets}
 
 -- m zeros
 abbrev zeros : ℕ → List ℕ

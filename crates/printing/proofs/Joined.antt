@@ -7,7 +7,7 @@ use Rattle.printing.specs.Digits.{digitsOf, hexOf, decimalOf}
 use Rattle.printing.specs.Lines.{STOP, REG, START, PAGE, BAD, LF, field, stopLine, regLine, startLine, pageLine, badLine}
 use Rattle.printing.specs.Answer.{regPart, pagePart, regsFrom, pagesFrom, answerText}
 use Rattle.printing.specs.Writing.{Spot, wrote}
-use Rattle.printing.proofs.Laid.{after, wrote-none}
+use Rattle.printing.proofs.WrittenText.{after, wrote-none}
 
 module _ (s a b : Spot) (h : a ≡ wrote s (9 ∷ [])) where
   pub field-of : (text : List ℕ) → b ≡ wrote a text → b ≡ wrote s (field text)

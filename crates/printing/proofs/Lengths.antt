@@ -8,7 +8,7 @@ use native.Mathlib.Nat.{zero-add, suc-add, div-eq-of-lt, lt-of-lt-of-le, pow-le-
 use lib.Dec.{eqb}
 use lib.ListN.{length, length-append}
 use Rattle.words.specs.Pick.{pick}
-use Rattle.printing.specs.Digits.{digit, digitsOf, bare, decimalOf}
+use Rattle.printing.specs.Digits.{digit, digitsOf, trimmed, decimalOf}
 use Rattle.printing.specs.Lines.{stopLine, regLine, startLine, pageLine, badLine}
 use Rattle.printing.specs.Answer.{regPart, pagePart, regsFrom, pagesFrom, answerText}
 use Rattle.printing.proofs.Places.{skip}
@@ -18,24 +18,24 @@ unfolding digitsOf
 digits-long base zero v = refl
 digits-long base (suc k) v = ap suc (digits-long base k v)
 
-pub bare-long : (ds : List ℕ) → length (bare ds) ≤ length ds
-unfolding bare
+pub bare-long : (ds : List ℕ) → length (trimmed ds) ≤ length ds
+unfolding trimmed
 bare-long [] = omega arith
 bare-long (d ∷ []) = omega arith
 bare-long (d ∷ e ∷ ds) = go (eqb d 48) (bare-long (e ∷ ds))
   where
-    go : (t : Bool) → length (bare (e ∷ ds)) ≤ suc (length ds) → length (pick t (bare (e ∷ ds)) (d ∷ e ∷ ds)) ≤ suc (suc (length ds))
+    go : (t : Bool) → length (trimmed (e ∷ ds)) ≤ suc (length ds) → length (pick t (trimmed (e ∷ ds)) (d ∷ e ∷ ds)) ≤ suc (suc (length ds))
     go true h = omega arith
     go false h = omega arith
 
 pub decimal-long : (v : ℕ) → length (decimalOf v) ≤ 10
 unfolding decimalOf
-decimal-long v = subst (λ (n : ℕ). length (bare (digitsOf 10 10 v)) ≤ n) (digits-long 10 10 v) (bare-long (digitsOf 10 10 v))
+decimal-long v = subst (λ (n : ℕ). length (trimmed (digitsOf 10 10 v)) ≤ n) (digits-long 10 10 v) (bare-long (digitsOf 10 10 v))
 
 -- n + 1 digits hold v, so the k before them are zeros
-short : (k n v : ℕ) → v < 10 ^ suc n → length (bare (digitsOf 10 (suc (k + n)) v)) ≤ suc n
+short : (k n v : ℕ) → v < 10 ^ suc n → length (trimmed (digitsOf 10 (suc (k + n)) v)) ≤ suc n
 short zero n v h =
-    rw zero-add (subst (λ (m : ℕ). length (bare (digitsOf 10 (suc n) v)) ≤ m) (digits-long 10 (suc n) v) (bare-long (digitsOf 10 (suc n) v)))
+    rw zero-add (subst (λ (m : ℕ). length (trimmed (digitsOf 10 (suc n) v)) ≤ m) (digits-long 10 (suc n) v) (bare-long (digitsOf 10 (suc n) v)))
 short (suc k) n v h = rw (suc-add, skip v (k + n) zeros) (short k n v h)
   where
     l : suc n ≤ suc (k + n)

@@ -1,6 +1,6 @@
 -- What the proofs of printing share.
-pub mod Laid
-pub mod Turns
+pub mod WrittenText
+pub mod WritingLoops
 pub mod Places
 pub mod Joined
 pub mod Lengths

@@ -18,13 +18,13 @@ abbrev pub hexOf : ℕ → ℕ → List ℕ
 hexOf k v = digitsOf 16 k v
 
 -- without the zeros that lead; the last digit stays
-unfoldable pub bare : List ℕ → List ℕ
-bare [] = []
-bare (d ∷ []) = d ∷ []
-bare (d ∷ e ∷ ds) =
-    let rest = bare (e ∷ ds) in
+unfoldable pub trimmed : List ℕ → List ℕ
+trimmed [] = []
+trimmed (d ∷ []) = d ∷ []
+trimmed (d ∷ e ∷ ds) =
+    let rest = trimmed (e ∷ ds) in
     pick (eqb d 48) rest (d ∷ e ∷ ds)
 
 -- a number in decimal, with no leading zero: none here has more than ten digits
 unfoldable pub decimalOf : ℕ → List ℕ
-decimalOf v = bare (digitsOf 10 10 v)
+decimalOf v = trimmed (digitsOf 10 10 v)

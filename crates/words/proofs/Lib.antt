@@ -3,6 +3,6 @@ pub mod Choice
 pub mod Differences
 pub mod Lifted
 pub mod Results
-pub mod Told
+pub mod ByCases
 pub mod Shifts
 pub mod Cases

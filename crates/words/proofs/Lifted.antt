@@ -9,24 +9,24 @@ use lib.Dec.{ltb}
 use lib.IntN.{ℤ, pos, negℤ, subℕ, natAbs, _+ℤ_, _-ℤ_}
 use lib.Signed.{ltZ}
 use Rattle.words.specs.Pick.{pick, either}
-use Rattle.words.specs.Whole.{word, half, signed, kept, overflows, size, spread}
+use Rattle.words.specs.Whole.{wordTop, halfTop, signed, kept, overflows, magnitude, spread}
 use Rattle.words.specs.Codes.{signCode, compareSigned, compareBits}
 use Rattle.words.proofs.Choice.{below}
 use Rattle.words.proofs.Differences.{sub-low, sub-high, same, neg-sub, add-sub, lt-sub}
 
 -- ---- what a result tells
 
-pub kept-is : (t : ℕ) → kept word (subℕ t 4294967296) ≡ t % 4294967296
+pub kept-is : (t : ℕ) → kept wordTop (subℕ t 4294967296) ≡ t % 4294967296
 unfolding kept
 kept-is t = ⊎-elim low high (below t 4294967296)
   where
-    low : t < 4294967296 → kept word (subℕ t 4294967296) ≡ t % 4294967296
+    low : t < 4294967296 → kept wordTop (subℕ t 4294967296) ≡ t % 4294967296
     low h = rw (sub-low t 4294967296 h) (omega arith)
 
-    high : 4294967296 ≤ t → kept word (subℕ t 4294967296) ≡ t % 4294967296
+    high : 4294967296 ≤ t → kept wordTop (subℕ t 4294967296) ≡ t % 4294967296
     high h = rw (sub-high t 4294967296 h) (omega arith)
 
-pub overflow-is : (t : ℕ) → overflows word (subℕ t 4294967296) ≡ either (ltb t 2147483648) (ltb 6442450943 t)
+pub overflow-is : (t : ℕ) → overflows wordTop (subℕ t 4294967296) ≡ either (ltb t 2147483648) (ltb 6442450943 t)
 unfolding overflows
 overflow-is t =
     ap (λ (b : Bool). either b (ltZ (pos 2147483647) (subℕ t 4294967296))) (lt-sub 4294967296 t 2147483648)
@@ -54,39 +54,39 @@ pub signed-high : (top a : ℕ) → top ≤ a → signed top a ≡ subℕ a (top
 unfolding signed
 signed-high top a h = rw (le-ltb a top h)
 
-pub lift-low : (a : ℕ) → a < 2147483648 → signed word a ≡ subℕ (a + 2147483648) 2147483648
-lift-low a h = signed-low word a h ∙ ap pos n ∙ sym (sub-high (a + 2147483648) 2147483648 (omega arith))
+pub lift-low : (a : ℕ) → a < 2147483648 → signed wordTop a ≡ subℕ (a + 2147483648) 2147483648
+lift-low a h = signed-low wordTop a h ∙ ap pos n ∙ sym (sub-high (a + 2147483648) 2147483648 (omega arith))
   where
     n : a ≡ a + 2147483648 - 2147483648
     n = omega arith
 
-pub lift-high : (a : ℕ) → 2147483648 ≤ a → signed word a ≡ subℕ (a - 2147483648) 2147483648
-lift-high a h = signed-high word a h ∙ same a 4294967296 (a - 2147483648) 2147483648 (omega arith)
+pub lift-high : (a : ℕ) → 2147483648 ≤ a → signed wordTop a ≡ subℕ (a - 2147483648) 2147483648
+lift-high a h = signed-high wordTop a h ∙ same a 4294967296 (a - 2147483648) 2147483648 (omega arith)
 
-pub size-low : (a : ℕ) → a < 2147483648 → a ≡ natAbs (signed word a)
-size-low a h = ap natAbs (sym (signed-low word a h))
+pub size-low : (a : ℕ) → a < 2147483648 → a ≡ natAbs (signed wordTop a)
+size-low a h = ap natAbs (sym (signed-low wordTop a h))
 
-pub size-high : (a : ℕ) → 2147483648 ≤ a → a < 4294967296 → 4294967295 - a + 1 ≡ natAbs (signed word a)
-size-high a h k = n ∙ ap natAbs (sym (signed-high word a h ∙ sub-low a 4294967296 k))
+pub size-high : (a : ℕ) → 2147483648 ≤ a → a < 4294967296 → 4294967295 - a + 1 ≡ natAbs (signed wordTop a)
+size-high a h k = n ∙ ap natAbs (sym (signed-high wordTop a h ∙ sub-low a 4294967296 k))
   where
     n : 4294967295 - a + 1 ≡ suc (4294967296 - suc a)
     n = omega arith
 
 pub spread-low : (h : ℕ) → h < 32768 → h ≡ spread h
 unfolding spread
-spread-low h l = n ∙ ap (kept word) (sym (signed-low half h l))
+spread-low h l = n ∙ ap (kept wordTop) (sym (signed-low halfTop h l))
   where
     n : h ≡ h % 4294967296
     n = omega arith
 
 pub spread-high : (h : ℕ) → 32768 ≤ h → h < 65536 → h + 4294901760 ≡ spread h
 unfolding spread
-spread-high h l k = n ∙ ap (kept word) (sym (signed-high half h l ∙ sub-low h 65536 k))
+spread-high h l k = n ∙ ap (kept wordTop) (sym (signed-high halfTop h l ∙ sub-low h 65536 k))
   where
     n : h + 4294901760 ≡ 4294967295 - (65536 - suc h) % 4294967296
     n = omega arith
 
--- ---- results from words: x and y are lifted words, n a size
+-- ---- results from words: x and y are lifted words, n a magnitude
 
 pub test-is : (x : ℕ) → subℕ x 2147483648 ≡ subℕ (x + 2147483648) 4294967296
 test-is x = same x 2147483648 (x + 2147483648) 4294967296 (omega arith)

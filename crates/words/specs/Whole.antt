@@ -1,5 +1,5 @@
--- The whole number that a word stands for, and what a word keeps of a whole number. `top` is the weight of the sign bit: a word
--- has as many values as top + top. Negative numbers are two's complement (001, L3272; document 01, "The machine we keep").
+-- The whole number that a wordTop stands for, and what a wordTop keeps of a whole number. `top` is the weight of the sign bit: a wordTop
+-- has as many values as top + top. Negative numbers are two's complement (001, L3284; document 01, "The machine we keep").
 use mathlib.Core.Bool.{Bool}
 use Prim.Native.Nat.{ℕ, _+_, _-_, _%_}
 use lib.Dec.{ltb}
@@ -7,31 +7,31 @@ use lib.IntN.{ℤ, pos, negsuc, negℤ, subℕ, natAbs}
 use lib.Signed.{ltZ}
 use Rattle.words.specs.Pick.{pick, either}
 
--- the sign bit of a word, and of a halfword
-abbrev pub word : ℕ
-word = 2147483648
+-- the sign bit of a wordTop, and of a halfword
+abbrev pub wordTop : ℕ
+wordTop = 2147483648
 
-abbrev pub half : ℕ
-half = 32768
+abbrev pub halfTop : ℕ
+halfTop = 32768
 
 -- what the bits a stand for: a itself, or a less the number of values where the sign bit is set
 unfoldable pub signed : ℕ → ℕ → ℤ
 signed top a = pick (ltb a top) (pos a) (subℕ a (top + top))
 
--- the low bits of a whole number, as many as the word has
+-- the low bits of a whole number, as many as the wordTop has
 unfoldable pub kept : ℕ → ℤ → ℕ
 kept top (pos n) = n % (top + top)
 kept top (negsuc n) = top + top - 1 - n % (top + top)
 
--- whether no word stands for it: below -top, or top and above
+-- whether no wordTop stands for it: below -top, or top and above
 unfoldable pub overflows : ℕ → ℤ → Bool
 overflows top z = either (ltZ z (negℤ (pos top))) (ltZ (pos (top - 1)) z)
 
--- its size without its sign
-abbrev pub size : ℤ → ℤ
-size z = pos (natAbs z)
+-- its magnitude without its sign
+abbrev pub magnitude : ℤ → ℤ
+magnitude z = pos (natAbs z)
 
 -- a halfword that a load widens: the sign bit goes to the 16 places on its left (001, L3422)
 unfoldable pub spread : ℕ → ℕ
 unfolding signed kept
-spread h = kept word (signed half h)
+spread h = kept wordTop (signed halfTop h)

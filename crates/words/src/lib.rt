@@ -1,7 +1,7 @@
 // Words: the arithmetic of the base set, against the whole numbers that words stand for.
 ghost use mathlib.Core.Path.{_≡_};
 ghost use lib.Signed.{ltZ};
-ghost use Rattle.words.specs.Whole.{word, signed, spread};
+ghost use Rattle.words.specs.Whole.{wordTop, signed, spread};
 ghost use Rattle.words.specs.Codes.{compareBits, maskCode, zeroCode};
 ghost use Rattle.words.specs.Combine.{combineOf, logicOf, shiftedLeft, shiftedRight};
 
@@ -31,7 +31,7 @@ pub enum Alu {
     Bits(Logic),
 }
 
-// A word, the condition code, and whether a signed result overflowed; not of eight bytes, as actions::Now is not.
+// A wordTop, the condition code, and whether a signed result overflowed; not of eight bytes, as actions::Now is not.
 pub struct Res {
     pub value: u32,
     pub code: u32,
@@ -42,17 +42,17 @@ pub fn combine(op: Alu, a: u32, b: u32, code: u32) -> Res
     ensures { λ r. ⌜ r ≡ combineOf op a b code ⌝ }
 {
     match op {
-        Alu::Load => logical::plain(b, code),
+        Alu::Load => logical::result_of(b, code),
         Alu::Test => signed::test(b),
         Alu::Complement => signed::complement(b),
         Alu::Positive => signed::positive(b),
         Alu::Negative => signed::negative(b),
         Alu::Add => signed::add(a, b),
         Alu::Subtract => signed::subtract(a, b),
-        Alu::Compare => logical::plain(a, signed::compare(a, b)),
+        Alu::Compare => logical::result_of(a, signed::compare(a, b)),
         Alu::AddLogical => logical::add(a, b),
         Alu::SubtractLogical => logical::subtract(a, b),
-        Alu::CompareLogical => logical::plain(a, compare_bits(a, b)),
+        Alu::CompareLogical => logical::result_of(a, compare_bits(a, b)),
         Alu::Bits(l) => logical::bits(l, a, b),
     }
 }
@@ -102,7 +102,7 @@ pub fn mask_code(b: u8, mask: u8) -> u32
     if chosen == mask { 3 } else { 1 }
 }
 
-// The sign bit weighs -32768 in a halfword, and the 17 copies of it in the word weigh the same.
+// The sign bit weighs -32768 in a halfword, and the 17 copies of it in the wordTop weigh the same.
 pub fn widen(h: u16) -> u32
     ensures { λ r. ⌜ r ≡ spread h ⌝ }
 {
@@ -133,7 +133,7 @@ pub fn shift_right(a: u32, n: u32) -> u32
 
 // Whether a is above b, both signed.
 pub fn high(a: u32, b: u32) -> bool
-    ensures { λ r. ⌜ r ≡ ltZ (signed word b) (signed word a) ⌝ }
+    ensures { λ r. ⌜ r ≡ ltZ (signed wordTop b) (signed wordTop a) ⌝ }
 {
     signed::lift(b) < signed::lift(a)
 }

@@ -7,8 +7,8 @@ use crate::Logic;
 use crate::Res;
 
 // A word with a code; nothing overflowed.
-pub fn plain(value: u32, code: u32) -> Res
-    ensures { λ r. ⌜ r ≡ def.plain value code ⌝ }
+pub fn result_of(value: u32, code: u32) -> Res
+    ensures { λ r. ⌜ r ≡ def.resultOf value code ⌝ }
 {
     Res {
         value: value,
@@ -24,9 +24,9 @@ pub fn carry(sum: u64) -> Res
     let value = (sum % 4294967296) as u32;
     let zero = crate::zero_code(value);
     if sum < 4294967296 {
-        return plain(value, zero);
+        return result_of(value, zero);
     }
-    plain(value, 2 + zero)
+    result_of(value, 2 + zero)
 }
 
 pub fn add(a: u32, b: u32) -> Res
@@ -43,8 +43,8 @@ pub fn subtract(a: u32, b: u32) -> Res
 }
 
 pub fn bits(op: Logic, a: u32, b: u32) -> Res
-    ensures { λ r. ⌜ r ≡ def.plain (def.logicOf op a b) (zeroCode (def.logicOf op a b)) ⌝ }
+    ensures { λ r. ⌜ r ≡ def.resultOf (def.logicOf op a b) (zeroCode (def.logicOf op a b)) ⌝ }
 {
     let value = crate::logic_word(op, a, b);
-    plain(value, crate::zero_code(value))
+    result_of(value, crate::zero_code(value))
 }

@@ -1,5 +1,6 @@
-use borrow.Author.Tests.{ne-eqb}
+use mathlib.Core.Path.{refl}
 use Rattle.code.specs.Table.{actionOf, table}
+use Rattle.code.proofs.Decoding.{at-code, unknown-code}
 use Rattle.code.proofs.action_of.Statement.{statement}
 use Rattle.code.proofs.action_of.Tie as tie
 use Rattle.code.proofs.action_of.Reads as reads
@@ -7,209 +8,207 @@ use Rattle.code.proofs.action_of.Lts as lts
 
 returns : tie.Need-returns
 unfolding actionOf table
-returns c = rw (c .match .keys1)
+returns c = at-code _ _ _ (c .match .keys1) refl
 
 returns-2 : tie.Need-returns-2
 unfolding actionOf table
-returns-2 c = rw (c .match .keys2)
+returns-2 c = at-code _ _ _ (c .match .keys2) refl
 
 returns-3 : tie.Need-returns-3
 unfolding actionOf table
-returns-3 c = rw (c .match .keys3)
+returns-3 c = at-code _ _ _ (c .match .keys3) refl
 
 returns-4 : tie.Need-returns-4
 unfolding actionOf table
-returns-4 c = rw (c .match .keys4)
+returns-4 c = at-code _ _ _ (c .match .keys4) refl
 
 returns-5 : tie.Need-returns-5
 unfolding actionOf table
-returns-5 c = rw (c .match .keys5)
+returns-5 c = at-code _ _ _ (c .match .keys5) refl
 
 returns-6 : tie.Need-returns-6
 unfolding actionOf table
-returns-6 c = rw (c .match .keys6)
+returns-6 c = at-code _ _ _ (c .match .keys6) refl
 
 returns-7 : tie.Need-returns-7
 unfolding actionOf table
-returns-7 c = rw (c .match .keys7)
+returns-7 c = at-code _ _ _ (c .match .keys7) refl
 
 returns-8 : tie.Need-returns-8
 unfolding actionOf table
-returns-8 c = rw (c .match .keys8)
+returns-8 c = at-code _ _ _ (c .match .keys8) refl
 
 returns-9 : tie.Need-returns-9
 unfolding actionOf table
-returns-9 c = rw (c .match .keys9)
+returns-9 c = at-code _ _ _ (c .match .keys9) refl
 
 returns-10 : tie.Need-returns-10
 unfolding actionOf table
-returns-10 c = rw (c .match .keys10)
+returns-10 c = at-code _ _ _ (c .match .keys10) refl
 
 returns-11 : tie.Need-returns-11
 unfolding actionOf table
-returns-11 c = rw (c .match .keys11)
+returns-11 c = at-code _ _ _ (c .match .keys11) refl
 
 returns-12 : tie.Need-returns-12
 unfolding actionOf table
-returns-12 c = rw (c .match .keys12)
+returns-12 c = at-code _ _ _ (c .match .keys12) refl
 
 returns-13 : tie.Need-returns-13
 unfolding actionOf table
-returns-13 c = rw (c .match .keys13)
+returns-13 c = at-code _ _ _ (c .match .keys13) refl
 
 returns-14 : tie.Need-returns-14
 unfolding actionOf table
-returns-14 c = rw (c .match .keys14)
+returns-14 c = at-code _ _ _ (c .match .keys14) refl
 
 returns-15 : tie.Need-returns-15
 unfolding actionOf table
-returns-15 c = rw (c .match .keys15)
+returns-15 c = at-code _ _ _ (c .match .keys15) refl
 
 returns-16 : tie.Need-returns-16
 unfolding actionOf table
-returns-16 c = rw (c .match .keys16)
+returns-16 c = at-code _ _ _ (c .match .keys16) refl
 
 returns-17 : tie.Need-returns-17
 unfolding actionOf table
-returns-17 c = rw (c .match .keys17)
+returns-17 c = at-code _ _ _ (c .match .keys17) refl
 
 returns-18 : tie.Need-returns-18
 unfolding actionOf table
-returns-18 c = rw (c .match .keys18)
+returns-18 c = at-code _ _ _ (c .match .keys18) refl
 
 returns-19 : tie.Need-returns-19
 unfolding actionOf table
-returns-19 c = rw (c .match .keys19)
+returns-19 c = at-code _ _ _ (c .match .keys19) refl
 
 returns-20 : tie.Need-returns-20
 unfolding actionOf table
-returns-20 c = rw (c .match .keys20)
+returns-20 c = at-code _ _ _ (c .match .keys20) refl
 
 returns-21 : tie.Need-returns-21
 unfolding actionOf table
-returns-21 c = rw (c .match .keys21)
+returns-21 c = at-code _ _ _ (c .match .keys21) refl
 
 returns-22 : tie.Need-returns-22
 unfolding actionOf table
-returns-22 c = rw (c .match .keys22)
+returns-22 c = at-code _ _ _ (c .match .keys22) refl
 
 returns-23 : tie.Need-returns-23
 unfolding actionOf table
-returns-23 c = rw (c .match .keys23)
+returns-23 c = at-code _ _ _ (c .match .keys23) refl
 
 returns-24 : tie.Need-returns-24
 unfolding actionOf table
-returns-24 c = rw (c .match .keys24)
+returns-24 c = at-code _ _ _ (c .match .keys24) refl
 
 returns-25 : tie.Need-returns-25
 unfolding actionOf table
-returns-25 c = rw (c .match .keys25)
+returns-25 c = at-code _ _ _ (c .match .keys25) refl
 
 returns-26 : tie.Need-returns-26
 unfolding actionOf table
-returns-26 c = rw (c .match .keys26)
+returns-26 c = at-code _ _ _ (c .match .keys26) refl
 
 returns-27 : tie.Need-returns-27
 unfolding actionOf table
-returns-27 c = rw (c .match .keys27)
+returns-27 c = at-code _ _ _ (c .match .keys27) refl
 
 returns-28 : tie.Need-returns-28
 unfolding actionOf table
-returns-28 c = rw (c .match .keys28)
+returns-28 c = at-code _ _ _ (c .match .keys28) refl
 
 returns-29 : tie.Need-returns-29
 unfolding actionOf table
-returns-29 c = rw (c .match .keys29)
+returns-29 c = at-code _ _ _ (c .match .keys29) refl
 
 returns-30 : tie.Need-returns-30
 unfolding actionOf table
-returns-30 c = rw (c .match .keys30)
+returns-30 c = at-code _ _ _ (c .match .keys30) refl
 
 returns-31 : tie.Need-returns-31
 unfolding actionOf table
-returns-31 c = rw (c .match .keys31)
+returns-31 c = at-code _ _ _ (c .match .keys31) refl
 
 returns-32 : tie.Need-returns-32
 unfolding actionOf table
-returns-32 c = rw (c .match .keys32)
+returns-32 c = at-code _ _ _ (c .match .keys32) refl
 
 returns-33 : tie.Need-returns-33
 unfolding actionOf table
-returns-33 c = rw (c .match .keys33)
+returns-33 c = at-code _ _ _ (c .match .keys33) refl
 
 returns-34 : tie.Need-returns-34
 unfolding actionOf table
-returns-34 c = rw (c .match .keys34)
+returns-34 c = at-code _ _ _ (c .match .keys34) refl
 
 returns-35 : tie.Need-returns-35
 unfolding actionOf table
-returns-35 c = rw (c .match .keys35)
+returns-35 c = at-code _ _ _ (c .match .keys35) refl
 
 returns-36 : tie.Need-returns-36
 unfolding actionOf table
-returns-36 c = rw (c .match .keys36)
+returns-36 c = at-code _ _ _ (c .match .keys36) refl
 
 returns-37 : tie.Need-returns-37
 unfolding actionOf table
-returns-37 c = rw (c .match .keys37)
+returns-37 c = at-code _ _ _ (c .match .keys37) refl
 
 returns-38 : tie.Need-returns-38
 unfolding actionOf table
-returns-38 c = rw (c .match .keys38)
+returns-38 c = at-code _ _ _ (c .match .keys38) refl
 
 returns-39 : tie.Need-returns-39
 unfolding actionOf table
-returns-39 c = rw (c .match .keys39)
+returns-39 c = at-code _ _ _ (c .match .keys39) refl
 
 returns-40 : tie.Need-returns-40
 unfolding actionOf table
-returns-40 c = rw (c .match .keys40)
+returns-40 c = at-code _ _ _ (c .match .keys40) refl
 
 returns-41 : tie.Need-returns-41
 unfolding actionOf table
-returns-41 c = rw (c .match .keys41)
+returns-41 c = at-code _ _ _ (c .match .keys41) refl
 
 returns-42 : tie.Need-returns-42
 unfolding actionOf table
-returns-42 c = rw (c .match .keys42)
+returns-42 c = at-code _ _ _ (c .match .keys42) refl
 
 returns-43 : tie.Need-returns-43
 unfolding actionOf table
-returns-43 c = rw (c .match .keys43)
+returns-43 c = at-code _ _ _ (c .match .keys43) refl
 
 returns-44 : tie.Need-returns-44
 unfolding actionOf table
-returns-44 c = rw (c .match .keys44)
+returns-44 c = at-code _ _ _ (c .match .keys44) refl
 
 returns-45 : tie.Need-returns-45
 unfolding actionOf table
-returns-45 c = rw (c .match .keys45)
+returns-45 c = at-code _ _ _ (c .match .keys45) refl
 
 returns-46 : tie.Need-returns-46
 unfolding actionOf table
-returns-46 c = rw (c .match .keys46)
+returns-46 c = at-code _ _ _ (c .match .keys46) refl
 
 returns-47 : tie.Need-returns-47
 unfolding actionOf table
-returns-47 c = rw (c .match .keys47)
+returns-47 c = at-code _ _ _ (c .match .keys47) refl
 
 returns-48 : tie.Need-returns-48
 unfolding actionOf table
-returns-48 c = rw (c .match .keys48)
+returns-48 c = at-code _ _ _ (c .match .keys48) refl
 
 returns-49 : tie.Need-returns-49
 unfolding actionOf table
-returns-49 c = rw (c .match .keys49)
+returns-49 c = at-code _ _ _ (c .match .keys49) refl
 
 returns-50 : tie.Need-returns-50
 unfolding actionOf table
-returns-50 c = rw (c .match .keys50)
+returns-50 c = at-code _ _ _ (c .match .keys50) refl
 
 returns-51 : tie.Need-returns-51
-unfolding actionOf table
-returns-51 c =
-    simp
-    (ne-eqb _ 0x18 (c .match .rest .0 .0 .0 .0 .0 .0 .0 .0 .0 .0 .0 .0 .0 .0 .0 .0 .0 .0 .0 .0 .0 .0 .0 .0 .0 .0 .0 .0 .0 .0 .0 .0 .0 .0 .0 .0 .0 .0 .0 .0 .0 .0 .0 .0 .0 .0 .0 .0 .0 .1), ne-eqb _ 0x58 (c .match .rest .0 .0 .0 .0 .0 .0 .0 .0 .0 .0 .0 .0 .0 .0 .0 .0 .0 .0 .0 .0 .0 .0 .0 .0 .0 .0 .0 .0 .0 .0 .0 .0 .0 .0 .0 .0 .0 .0 .0 .0 .0 .0 .0 .0 .0 .0 .0 .0 .1), ne-eqb _ 0x48 (c .match .rest .0 .0 .0 .0 .0 .0 .0 .0 .0 .0 .0 .0 .0 .0 .0 .0 .0 .0 .0 .0 .0 .0 .0 .0 .0 .0 .0 .0 .0 .0 .0 .0 .0 .0 .0 .0 .0 .0 .0 .0 .0 .0 .0 .0 .0 .0 .0 .1), ne-eqb _ 0x12 (c .match .rest .0 .0 .0 .0 .0 .0 .0 .0 .0 .0 .0 .0 .0 .0 .0 .0 .0 .0 .0 .0 .0 .0 .0 .0 .0 .0 .0 .0 .0 .0 .0 .0 .0 .0 .0 .0 .0 .0 .0 .0 .0 .0 .0 .0 .0 .0 .1), ne-eqb _ 0x13 (c .match .rest .0 .0 .0 .0 .0 .0 .0 .0 .0 .0 .0 .0 .0 .0 .0 .0 .0 .0 .0 .0 .0 .0 .0 .0 .0 .0 .0 .0 .0 .0 .0 .0 .0 .0 .0 .0 .0 .0 .0 .0 .0 .0 .0 .0 .0 .1), ne-eqb _ 0x10 (c .match .rest .0 .0 .0 .0 .0 .0 .0 .0 .0 .0 .0 .0 .0 .0 .0 .0 .0 .0 .0 .0 .0 .0 .0 .0 .0 .0 .0 .0 .0 .0 .0 .0 .0 .0 .0 .0 .0 .0 .0 .0 .0 .0 .0 .0 .1), ne-eqb _ 0x11 (c .match .rest .0 .0 .0 .0 .0 .0 .0 .0 .0 .0 .0 .0 .0 .0 .0 .0 .0 .0 .0 .0 .0 .0 .0 .0 .0 .0 .0 .0 .0 .0 .0 .0 .0 .0 .0 .0 .0 .0 .0 .0 .0 .0 .0 .1), ne-eqb _ 0x98 (c .match .rest .0 .0 .0 .0 .0 .0 .0 .0 .0 .0 .0 .0 .0 .0 .0 .0 .0 .0 .0 .0 .0 .0 .0 .0 .0 .0 .0 .0 .0 .0 .0 .0 .0 .0 .0 .0 .0 .0 .0 .0 .0 .0 .1), ne-eqb _ 0x50 (c .match .rest .0 .0 .0 .0 .0 .0 .0 .0 .0 .0 .0 .0 .0 .0 .0 .0 .0 .0 .0 .0 .0 .0 .0 .0 .0 .0 .0 .0 .0 .0 .0 .0 .0 .0 .0 .0 .0 .0 .0 .0 .0 .1), ne-eqb _ 0x40 (c .match .rest .0 .0 .0 .0 .0 .0 .0 .0 .0 .0 .0 .0 .0 .0 .0 .0 .0 .0 .0 .0 .0 .0 .0 .0 .0 .0 .0 .0 .0 .0 .0 .0 .0 .0 .0 .0 .0 .0 .0 .0 .1), ne-eqb _ 0x90 (c .match .rest .0 .0 .0 .0 .0 .0 .0 .0 .0 .0 .0 .0 .0 .0 .0 .0 .0 .0 .0 .0 .0 .0 .0 .0 .0 .0 .0 .0 .0 .0 .0 .0 .0 .0 .0 .0 .0 .0 .0 .1), ne-eqb _ 0x41 (c .match .rest .0 .0 .0 .0 .0 .0 .0 .0 .0 .0 .0 .0 .0 .0 .0 .0 .0 .0 .0 .0 .0 .0 .0 .0 .0 .0 .0 .0 .0 .0 .0 .0 .0 .0 .0 .0 .0 .0 .1), ne-eqb _ 0x43 (c .match .rest .0 .0 .0 .0 .0 .0 .0 .0 .0 .0 .0 .0 .0 .0 .0 .0 .0 .0 .0 .0 .0 .0 .0 .0 .0 .0 .0 .0 .0 .0 .0 .0 .0 .0 .0 .0 .0 .1), ne-eqb _ 0x42 (c .match .rest .0 .0 .0 .0 .0 .0 .0 .0 .0 .0 .0 .0 .0 .0 .0 .0 .0 .0 .0 .0 .0 .0 .0 .0 .0 .0 .0 .0 .0 .0 .0 .0 .0 .0 .0 .0 .1), ne-eqb _ 0x1a (c .match .rest .0 .0 .0 .0 .0 .0 .0 .0 .0 .0 .0 .0 .0 .0 .0 .0 .0 .0 .0 .0 .0 .0 .0 .0 .0 .0 .0 .0 .0 .0 .0 .0 .0 .0 .0 .1), ne-eqb _ 0x5a (c .match .rest .0 .0 .0 .0 .0 .0 .0 .0 .0 .0 .0 .0 .0 .0 .0 .0 .0 .0 .0 .0 .0 .0 .0 .0 .0 .0 .0 .0 .0 .0 .0 .0 .0 .0 .1), ne-eqb _ 0x1b (c .match .rest .0 .0 .0 .0 .0 .0 .0 .0 .0 .0 .0 .0 .0 .0 .0 .0 .0 .0 .0 .0 .0 .0 .0 .0 .0 .0 .0 .0 .0 .0 .0 .0 .0 .1), ne-eqb _ 0x5b (c .match .rest .0 .0 .0 .0 .0 .0 .0 .0 .0 .0 .0 .0 .0 .0 .0 .0 .0 .0 .0 .0 .0 .0 .0 .0 .0 .0 .0 .0 .0 .0 .0 .0 .1), ne-eqb _ 0x19 (c .match .rest .0 .0 .0 .0 .0 .0 .0 .0 .0 .0 .0 .0 .0 .0 .0 .0 .0 .0 .0 .0 .0 .0 .0 .0 .0 .0 .0 .0 .0 .0 .0 .1), ne-eqb _ 0x59 (c .match .rest .0 .0 .0 .0 .0 .0 .0 .0 .0 .0 .0 .0 .0 .0 .0 .0 .0 .0 .0 .0 .0 .0 .0 .0 .0 .0 .0 .0 .0 .0 .1), ne-eqb _ 0x1e (c .match .rest .0 .0 .0 .0 .0 .0 .0 .0 .0 .0 .0 .0 .0 .0 .0 .0 .0 .0 .0 .0 .0 .0 .0 .0 .0 .0 .0 .0 .0 .1), ne-eqb _ 0x5e (c .match .rest .0 .0 .0 .0 .0 .0 .0 .0 .0 .0 .0 .0 .0 .0 .0 .0 .0 .0 .0 .0 .0 .0 .0 .0 .0 .0 .0 .0 .1), ne-eqb _ 0x1f (c .match .rest .0 .0 .0 .0 .0 .0 .0 .0 .0 .0 .0 .0 .0 .0 .0 .0 .0 .0 .0 .0 .0 .0 .0 .0 .0 .0 .0 .1), ne-eqb _ 0x5f (c .match .rest .0 .0 .0 .0 .0 .0 .0 .0 .0 .0 .0 .0 .0 .0 .0 .0 .0 .0 .0 .0 .0 .0 .0 .0 .0 .0 .1), ne-eqb _ 0x15 (c .match .rest .0 .0 .0 .0 .0 .0 .0 .0 .0 .0 .0 .0 .0 .0 .0 .0 .0 .0 .0 .0 .0 .0 .0 .0 .0 .1), ne-eqb _ 0x55 (c .match .rest .0 .0 .0 .0 .0 .0 .0 .0 .0 .0 .0 .0 .0 .0 .0 .0 .0 .0 .0 .0 .0 .0 .0 .0 .1), ne-eqb _ 0x95 (c .match .rest .0 .0 .0 .0 .0 .0 .0 .0 .0 .0 .0 .0 .0 .0 .0 .0 .0 .0 .0 .0 .0 .0 .0 .1), ne-eqb _ 0xd5 (c .match .rest .0 .0 .0 .0 .0 .0 .0 .0 .0 .0 .0 .0 .0 .0 .0 .0 .0 .0 .0 .0 .0 .0 .1), ne-eqb _ 0x14 (c .match .rest .0 .0 .0 .0 .0 .0 .0 .0 .0 .0 .0 .0 .0 .0 .0 .0 .0 .0 .0 .0 .0 .1), ne-eqb _ 0x54 (c .match .rest .0 .0 .0 .0 .0 .0 .0 .0 .0 .0 .0 .0 .0 .0 .0 .0 .0 .0 .0 .0 .1), ne-eqb _ 0x94 (c .match .rest .0 .0 .0 .0 .0 .0 .0 .0 .0 .0 .0 .0 .0 .0 .0 .0 .0 .0 .0 .1), ne-eqb _ 0x16 (c .match .rest .0 .0 .0 .0 .0 .0 .0 .0 .0 .0 .0 .0 .0 .0 .0 .0 .0 .0 .1), ne-eqb _ 0x56 (c .match .rest .0 .0 .0 .0 .0 .0 .0 .0 .0 .0 .0 .0 .0 .0 .0 .0 .0 .1), ne-eqb _ 0x96 (c .match .rest .0 .0 .0 .0 .0 .0 .0 .0 .0 .0 .0 .0 .0 .0 .0 .0 .1), ne-eqb _ 0x17 (c .match .rest .0 .0 .0 .0 .0 .0 .0 .0 .0 .0 .0 .0 .0 .0 .0 .1), ne-eqb _ 0x57 (c .match .rest .0 .0 .0 .0 .0 .0 .0 .0 .0 .0 .0 .0 .0 .0 .1), ne-eqb _ 0x97 (c .match .rest .0 .0 .0 .0 .0 .0 .0 .0 .0 .0 .0 .0 .0 .1), ne-eqb _ 0x91 (c .match .rest .0 .0 .0 .0 .0 .0 .0 .0 .0 .0 .0 .0 .1), ne-eqb _ 0x92 (c .match .rest .0 .0 .0 .0 .0 .0 .0 .0 .0 .0 .0 .1), ne-eqb _ 0xd2 (c .match .rest .0 .0 .0 .0 .0 .0 .0 .0 .0 .0 .1), ne-eqb _ 0x89 (c .match .rest .0 .0 .0 .0 .0 .0 .0 .0 .0 .1), ne-eqb _ 0x88 (c .match .rest .0 .0 .0 .0 .0 .0 .0 .0 .1), ne-eqb _ 0x07 (c .match .rest .0 .0 .0 .0 .0 .0 .0 .1), ne-eqb _ 0x47 (c .match .rest .0 .0 .0 .0 .0 .0 .1), ne-eqb _ 0x05 (c .match .rest .0 .0 .0 .0 .0 .1), ne-eqb _ 0x45 (c .match .rest .0 .0 .0 .0 .1), ne-eqb _ 0x06 (c .match .rest .0 .0 .0 .1), ne-eqb _ 0x46 (c .match .rest .0 .0 .1), ne-eqb _ 0x86 (c .match .rest .0 .1), ne-eqb _ 0x87 (c .match .rest .1))
+unfolding table
+returns-51 c = unknown-code _ _ (c .match .rest)
 
 pub action-of-spec : {M : Type 1} → statement M
 action-of-spec =

@@ -4,7 +4,7 @@ use native.Mathlib.Omega.{arith}
 use mathlib.Core.Path.{_≡_, refl, sym, _∙_}
 use Rattle.pages.specs.Framed.{framedOf}
 use Rattle.fields.specs.Direct.{compareField}
-use Rattle.fields.proofs.Loops.{compare-turn, compare-none, compare-low, compare-high}
+use Rattle.fields.proofs.ByteLoops.{compare-turn, compare-none, compare-low, compare-high}
 use Rattle.fields.proofs.compare_each.Statement.{statement}
 use Rattle.fields.proofs.compare_each.Tie as tie
 use Rattle.fields.proofs.compare_each.Reads as reads

@@ -1,4 +1,4 @@
-use Rattle.fields.proofs.Once.{not-on-empty, not-on-far, on-is}
+use Rattle.fields.proofs.MarkedOnce.{not-on-empty, not-on-far, on-is}
 use native.Mathlib.Omega.{arith}
 use borrow.Author.Tests.{lt-ltb, le-ltb, lt-leb, le-leb, eq-eqb}
 use Rattle.fields.specs.Direct.{onPage}

@@ -1,13 +1,13 @@
 use mathlib.Core.Path.{ap}
 use Rattle.pages.specs.declared.Look.{Look}
-use Rattle.fields.proofs.Loops.{look-on, look-stop}
+use Rattle.fields.proofs.ByteLoops.{look-on, look-stop}
 use borrow.Author.Needs.{needs}
 use Prim.Native.Nat.{_+_, _≤_, _-_, _<_}
 use native.Mathlib.Omega.{arith}
 use mathlib.Core.Path.{_≡_, refl, sym, _∙_}
 use lib.ListN.{length, drop}
 use Rattle.fields.specs.Direct.{lookField, lookFields}
-use Rattle.fields.proofs.Loops.{look-turn, look-none, fields-next, fields-end}
+use Rattle.fields.proofs.ByteLoops.{look-turn, look-none, fields-next, fields-end}
 use Rattle.fields.proofs.look_each.Statement.{statement}
 use Rattle.fields.proofs.look_each.Tie as tie
 use Rattle.fields.proofs.look_each.Reads as reads

@@ -1,17 +1,17 @@
 use Rattle.fields.specs.Direct.{lookOne, lookFields, lookField}
-use Rattle.fields.proofs.Together.{plain-look}
+use Rattle.fields.proofs.Together.{compact-look}
 use borrow.Author.Needs.{needs}
 use Rattle.fields.proofs.look_one.Statement.{statement}
 use Rattle.fields.proofs.look_one.Tie as tie
 use Rattle.fields.proofs.look_one.Reads as reads
 use Rattle.fields.proofs.look_one.Lts as lts
 use Rattle.fields.proofs.look_each.Reads as look-each-reads
-use Rattle.pages.proofs.is_plain.Reads as is-plain-reads
+use Rattle.pages.proofs.is_compact.Reads as is-compact-reads
 use Rattle.pages.proofs.real_at.Reads as real-at-reads
 
 -- src/lib.rt:77:8
-is-plain-requires : tie.Need-is-plain-requires
-is-plain-requires c κs = search needs
+is-compact-requires : tie.Need-is-compact-requires
+is-compact-requires c κs = search needs
 
 -- src/lib.rt:78:25
 real-at-requires : tie.Need-real-at-requires
@@ -19,7 +19,7 @@ real-at-requires c κs = search needs
 
 -- src/lib.rt:78:9
 returns : tie.Need-returns
-returns c = plain-look _ _ _ _ _ _ (c .before .before .is-plain .ensures) (c .before .if1 .taken) _ ((c .real-at .ensures) .0)
+returns c = compact-look _ _ _ _ _ _ (c .before .before .is-compact .ensures) (c .before .if1 .taken) _ ((c .real-at .ensures) .0)
 
 -- src/lib.rt:90:5
 look-each-requires : tie.Need-look-each-requires
@@ -32,4 +32,4 @@ returns-2 c = (c .look-each .ensures)
 
 pub look-one-spec : {M : Type 1} → statement M
 look-one-spec =
-    tie.close (tie.spec is-plain-requires real-at-requires returns look-each-requires returns-2)
+    tie.close (tie.spec is-compact-requires real-at-requires returns look-each-requires returns-2)

@@ -1,20 +1,20 @@
-use Rattle.fields.proofs.Together.{plain-two}
+use Rattle.fields.proofs.Together.{compact-two}
 use borrow.Author.Needs.{needs}
 use Rattle.fields.proofs.look_two.Statement.{statement}
 use Rattle.fields.proofs.look_two.Tie as tie
 use Rattle.fields.proofs.look_two.Reads as reads
 use Rattle.fields.proofs.look_two.Lts as lts
 use Rattle.fields.proofs.look_each.Reads as look-each-reads
-use Rattle.pages.proofs.is_plain.Reads as is-plain-reads
+use Rattle.pages.proofs.is_compact.Reads as is-compact-reads
 use Rattle.pages.proofs.real_at.Reads as real-at-reads
 
 -- src/lib.rt:65:8
-is-plain-requires : tie.Need-is-plain-requires
-is-plain-requires c κs = search needs
+is-compact-requires : tie.Need-is-compact-requires
+is-compact-requires c κs = search needs
 
 -- src/lib.rt:66:12
-is-plain-requires-2 : tie.Need-is-plain-requires-2
-is-plain-requires-2 c κs = search needs
+is-compact-requires-2 : tie.Need-is-compact-requires-2
+is-compact-requires-2 c κs = search needs
 
 -- src/lib.rt:67:29
 real-at-requires : tie.Need-real-at-requires
@@ -22,7 +22,7 @@ real-at-requires c κs = search needs
 
 -- src/lib.rt:67:13
 returns : tie.Need-returns
-returns c = plain-two _ _ _ _ _ _ (c .before .before .before .before .is-plain .ensures) (c .before .before .before .if1 .taken) (c .before .before .is-plain2 .ensures) (c .before .if2 .taken) _ ((c .real-at .ensures) .0)
+returns c = compact-two _ _ _ _ _ _ (c .before .before .before .before .is-compact .ensures) (c .before .before .before .if1 .taken) (c .before .before .is-compact2 .ensures) (c .before .if2 .taken) _ ((c .real-at .ensures) .0)
 
 -- src/lib.rt:70:5
 look-each-requires : tie.Need-look-each-requires
@@ -36,8 +36,8 @@ pub look-two-spec : {M : Type 1} → statement M
 look-two-spec =
     tie.close
     (tie.spec
-    is-plain-requires
-    is-plain-requires-2
+    is-compact-requires
+    is-compact-requires-2
     real-at-requires
     returns
     look-each-requires

@@ -5,7 +5,7 @@ use mathlib.Core.Path.{_≡_, refl, sym, _∙_}
 use lib.ListN.{length}
 use Rattle.pages.specs.Framed.{framedOf}
 use Rattle.fields.specs.Direct.{moveField}
-use Rattle.fields.proofs.Loops.{move-turn, move-none}
+use Rattle.fields.proofs.ByteLoops.{move-turn, move-none}
 use Rattle.fields.proofs.move_each.Statement.{statement}
 use Rattle.fields.proofs.move_each.Tie as tie
 use Rattle.fields.proofs.move_each.Reads as reads

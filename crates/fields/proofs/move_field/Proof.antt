@@ -1,4 +1,4 @@
-use Rattle.fields.proofs.Together.{plain-room, plain-move}
+use Rattle.fields.proofs.Together.{compact-room, compact-move}
 use borrow.Author.Needs.{needs}
 use Rattle.fields.proofs.move_field.Statement.{statement}
 use Rattle.fields.proofs.move_field.Tie as tie
@@ -6,17 +6,17 @@ use Rattle.fields.proofs.move_field.Reads as reads
 use Rattle.fields.proofs.move_field.Lts as lts
 use Rattle.fields.proofs.move_each.Reads as move-each-reads
 use Rattle.fields.proofs.move_flat.Reads as move-flat-reads
-use Rattle.pages.proofs.is_plain.Reads as is-plain-reads
+use Rattle.pages.proofs.is_compact.Reads as is-compact-reads
 use Rattle.pages.proofs.note_written.Reads as note-written-reads
 use Rattle.pages.proofs.real_at.Reads as real-at-reads
 
 -- src/lib.rt:218:8
-is-plain-requires : tie.Need-is-plain-requires
-is-plain-requires c κs = search needs
+is-compact-requires : tie.Need-is-compact-requires
+is-compact-requires c κs = search needs
 
 -- src/lib.rt:219:12
-is-plain-requires-2 : tie.Need-is-plain-requires-2
-is-plain-requires-2 c κs = search needs
+is-compact-requires-2 : tie.Need-is-compact-requires-2
+is-compact-requires-2 c κs = search needs
 
 -- src/lib.rt:220:17
 real-at-requires : tie.Need-real-at-requires
@@ -28,7 +28,7 @@ real-at-requires-2 c κs = search needs
 
 -- src/lib.rt:222:13
 move-flat-requires : tie.Need-move-flat-requires
-move-flat-requires c κs = (plain-room _ _ _ _ _ _ (c .before .before .before .before .before .before .before .before .before .is-plain .ensures) (c .before .before .before .before .before .before .before .before .if1 .taken) _ ((c .before .before .before .real-at .ensures) .0), plain-room _ _ _ _ _ _ (c .before .before .before .before .before .before .is-plain2 .ensures) (c .before .before .before .before .before .if2 .taken) _ ((c .before .real-at2 .ensures) .0))
+move-flat-requires c κs = (compact-room _ _ _ _ _ _ (c .before .before .before .before .before .before .before .before .before .is-compact .ensures) (c .before .before .before .before .before .before .before .before .if1 .taken) _ ((c .before .before .before .real-at .ensures) .0), compact-room _ _ _ _ _ _ (c .before .before .before .before .before .before .is-compact2 .ensures) (c .before .before .before .before .before .if2 .taken) _ ((c .before .real-at2 .ensures) .0))
 
 -- src/lib.rt:223:13
 note-written-requires : tie.Need-note-written-requires
@@ -44,7 +44,7 @@ same-length-2 c = search needs
 
 -- src/lib.rt:224:13
 returns : tie.Need-returns
-returns c = plain-move _ _ _ _ _ _ _ (c .before .before .before .before .before .before .before .before .before .before .before .before .before .is-plain2 .ensures) (c .before .before .before .before .before .before .before .before .before .before .before .before .if2 .taken) _ _ ((c .before .before .before .before .before .before .before .before .before .before .real-at .ensures) .0) ((c .before .before .before .before .before .before .before .before .real-at2 .ensures) .0) (c .before .before .before .before .before .before .before .before .before .before .before .before .before .before .before .before .is-plain .ensures) (c .before .before .before .before .before .before .before .before .before .before .before .before .before .before .before .if1 .taken) _ _ (c .before .before .before .before .before .before .move-flat .ensures) (c .before .before .note-written .ensures)
+returns c = compact-move _ _ _ _ _ _ _ (c .before .before .before .before .before .before .before .before .before .before .before .before .before .is-compact2 .ensures) (c .before .before .before .before .before .before .before .before .before .before .before .before .if2 .taken) _ _ ((c .before .before .before .before .before .before .before .before .before .before .real-at .ensures) .0) ((c .before .before .before .before .before .before .before .before .real-at2 .ensures) .0) (c .before .before .before .before .before .before .before .before .before .before .before .before .before .before .before .before .is-compact .ensures) (c .before .before .before .before .before .before .before .before .before .before .before .before .before .before .before .if1 .taken) _ _ (c .before .before .before .before .before .before .move-flat .ensures) (c .before .before .note-written .ensures)
 
 -- src/lib.rt:227:5
 move-each-requires : tie.Need-move-each-requires
@@ -66,8 +66,8 @@ pub move-field-spec : {M : Type 1} → statement M
 move-field-spec =
     tie.close
     (tie.spec
-    is-plain-requires
-    is-plain-requires-2
+    is-compact-requires
+    is-compact-requires-2
     real-at-requires
     real-at-requires-2
     move-flat-requires

@@ -4,7 +4,7 @@ use native.Mathlib.Omega.{arith}
 use mathlib.Core.Path.{_≡_, refl, sym, _∙_}
 use lib.ListN.{length, length-set}
 use Rattle.fields.specs.Direct.{noteField}
-use Rattle.fields.proofs.Loops.{note-turn, note-none}
+use Rattle.fields.proofs.ByteLoops.{note-turn, note-none}
 use Rattle.fields.proofs.note_each.Statement.{statement}
 use Rattle.fields.proofs.note_each.Tie as tie
 use Rattle.fields.proofs.note_each.Reads as reads

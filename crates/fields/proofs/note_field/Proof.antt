@@ -1,4 +1,4 @@
-use Rattle.fields.proofs.Once.{page-note}
+use Rattle.fields.proofs.MarkedOnce.{page-note}
 use borrow.Author.Needs.{needs}
 use Rattle.fields.proofs.note_field.Statement.{statement}
 use Rattle.fields.proofs.note_field.Tie as tie

@@ -1,4 +1,4 @@
-use Rattle.fields.proofs.Together.{plain-room, plain-read}
+use Rattle.fields.proofs.Together.{compact-room, compact-read}
 use borrow.Author.Needs.{needs}
 use Rattle.fields.proofs.read_half.Statement.{statement}
 use Rattle.fields.proofs.read_half.Tie as tie
@@ -6,12 +6,12 @@ use Rattle.fields.proofs.read_half.Reads as reads
 use Rattle.fields.proofs.read_half.Lts as lts
 use Rattle.fields.proofs.flat.half_of.Reads as half-of-reads
 use Rattle.fields.proofs.half_each.Reads as half-each-reads
-use Rattle.pages.proofs.is_plain.Reads as is-plain-reads
+use Rattle.pages.proofs.is_compact.Reads as is-compact-reads
 use Rattle.pages.proofs.real_at.Reads as real-at-reads
 
 -- src/lib.rt:161:8
-is-plain-requires : tie.Need-is-plain-requires
-is-plain-requires c κs = search needs
+is-compact-requires : tie.Need-is-compact-requires
+is-compact-requires c κs = search needs
 
 -- src/lib.rt:162:35
 real-at-requires : tie.Need-real-at-requires
@@ -19,11 +19,11 @@ real-at-requires c κs = search needs
 
 -- src/lib.rt:162:9
 half-of-requires : tie.Need-half-of-requires
-half-of-requires c κs = plain-room _ _ _ _ _ _ (c .before .before .is-plain .ensures) (c .before .if1 .taken) _ ((c .real-at .ensures) .0)
+half-of-requires c κs = compact-room _ _ _ _ _ _ (c .before .before .is-compact .ensures) (c .before .if1 .taken) _ ((c .real-at .ensures) .0)
 
 -- src/lib.rt:162:9
 returns : tie.Need-returns
-returns c = plain-read _ _ _ _ _ (c .before .before .before .is-plain .ensures) (c .before .before .if1 .taken) _ _ ((c .before .real-at .ensures) .0) (c .half-of .ensures)
+returns c = compact-read _ _ _ _ _ (c .before .before .before .is-compact .ensures) (c .before .before .if1 .taken) _ _ ((c .before .real-at .ensures) .0) (c .half-of .ensures)
 
 -- src/lib.rt:164:5
 half-each-requires : tie.Need-half-each-requires
@@ -37,7 +37,7 @@ pub read-half-spec : {M : Type 1} → statement M
 read-half-spec =
     tie.close
     (tie.spec
-    is-plain-requires
+    is-compact-requires
     real-at-requires
     half-of-requires
     returns

@@ -1,4 +1,4 @@
-use Rattle.fields.proofs.Together.{plain-room, plain-read}
+use Rattle.fields.proofs.Together.{compact-room, compact-read}
 use borrow.Author.Needs.{needs}
 use Rattle.fields.proofs.read_word.Statement.{statement}
 use Rattle.fields.proofs.read_word.Tie as tie
@@ -6,12 +6,12 @@ use Rattle.fields.proofs.read_word.Reads as reads
 use Rattle.fields.proofs.read_word.Lts as lts
 use Rattle.fields.proofs.flat.word_of.Reads as word-of-reads
 use Rattle.fields.proofs.word_each.Reads as word-each-reads
-use Rattle.pages.proofs.is_plain.Reads as is-plain-reads
+use Rattle.pages.proofs.is_compact.Reads as is-compact-reads
 use Rattle.pages.proofs.real_at.Reads as real-at-reads
 
 -- src/lib.rt:178:8
-is-plain-requires : tie.Need-is-plain-requires
-is-plain-requires c κs = search needs
+is-compact-requires : tie.Need-is-compact-requires
+is-compact-requires c κs = search needs
 
 -- src/lib.rt:179:35
 real-at-requires : tie.Need-real-at-requires
@@ -19,11 +19,11 @@ real-at-requires c κs = search needs
 
 -- src/lib.rt:179:9
 word-of-requires : tie.Need-word-of-requires
-word-of-requires c κs = plain-room _ _ _ _ _ _ (c .before .before .is-plain .ensures) (c .before .if1 .taken) _ ((c .real-at .ensures) .0)
+word-of-requires c κs = compact-room _ _ _ _ _ _ (c .before .before .is-compact .ensures) (c .before .if1 .taken) _ ((c .real-at .ensures) .0)
 
 -- src/lib.rt:179:9
 returns : tie.Need-returns
-returns c = plain-read _ _ _ _ _ (c .before .before .before .is-plain .ensures) (c .before .before .if1 .taken) _ _ ((c .before .real-at .ensures) .0) (c .word-of .ensures)
+returns c = compact-read _ _ _ _ _ (c .before .before .before .is-compact .ensures) (c .before .before .if1 .taken) _ _ ((c .before .real-at .ensures) .0) (c .word-of .ensures)
 
 -- src/lib.rt:181:5
 word-each-requires : tie.Need-word-each-requires
@@ -37,7 +37,7 @@ pub read-word-spec : {M : Type 1} → statement M
 read-word-spec =
     tie.close
     (tie.spec
-    is-plain-requires
+    is-compact-requires
     real-at-requires
     word-of-requires
     returns

@@ -1,4 +1,4 @@
-use Rattle.fields.proofs.Together.{plain-room, plain-write}
+use Rattle.fields.proofs.Together.{compact-room, compact-write}
 use borrow.Author.Needs.{needs}
 use Rattle.fields.proofs.write_word.Statement.{statement}
 use Rattle.fields.proofs.write_word.Tie as tie
@@ -6,13 +6,13 @@ use Rattle.fields.proofs.write_word.Reads as reads
 use Rattle.fields.proofs.write_word.Lts as lts
 use Rattle.fields.proofs.flat.put_word.Reads as put-word-reads
 use Rattle.fields.proofs.word_put_each.Reads as word-put-each-reads
-use Rattle.pages.proofs.is_plain.Reads as is-plain-reads
+use Rattle.pages.proofs.is_compact.Reads as is-compact-reads
 use Rattle.pages.proofs.note_written.Reads as note-written-reads
 use Rattle.pages.proofs.real_at.Reads as real-at-reads
 
 -- src/lib.rt:206:8
-is-plain-requires : tie.Need-is-plain-requires
-is-plain-requires c κs = search needs
+is-compact-requires : tie.Need-is-compact-requires
+is-compact-requires c κs = search needs
 
 -- src/lib.rt:207:29
 real-at-requires : tie.Need-real-at-requires
@@ -20,7 +20,7 @@ real-at-requires c κs = search needs
 
 -- src/lib.rt:207:9
 put-word-requires : tie.Need-put-word-requires
-put-word-requires c κs = plain-room _ _ _ _ _ _ (c .before .before .before .before .is-plain .ensures) (c .before .before .before .if1 .taken) _ ((c .real-at .ensures) .0)
+put-word-requires c κs = compact-room _ _ _ _ _ _ (c .before .before .before .before .is-compact .ensures) (c .before .before .before .if1 .taken) _ ((c .real-at .ensures) .0)
 
 -- src/lib.rt:208:9
 note-written-requires : tie.Need-note-written-requires
@@ -36,7 +36,7 @@ same-length-2 c = search needs
 
 -- src/lib.rt:209:9
 returns : tie.Need-returns
-returns c = plain-write _ _ _ _ _ (c .before .before .before .before .before .before .before .before .before .before .before .is-plain .ensures) (c .before .before .before .before .before .before .before .before .before .before .if1 .taken) _ _ ((c .before .before .before .before .before .before .before .real-at .ensures) .0) _ _ (c .before .before .before .before .before .before .put-word .ensures) (c .before .before .note-written .ensures)
+returns c = compact-write _ _ _ _ _ (c .before .before .before .before .before .before .before .before .before .before .before .is-compact .ensures) (c .before .before .before .before .before .before .before .before .before .before .if1 .taken) _ _ ((c .before .before .before .before .before .before .before .real-at .ensures) .0) _ _ (c .before .before .before .before .before .before .put-word .ensures) (c .before .before .note-written .ensures)
 
 -- src/lib.rt:211:5
 word-put-each-requires : tie.Need-word-put-each-requires
@@ -58,7 +58,7 @@ pub write-word-spec : {M : Type 1} → statement M
 write-word-spec =
     tie.close
     (tie.spec
-    is-plain-requires
+    is-compact-requires
     real-at-requires
     put-word-requires
     note-written-requires

@@ -1,4 +1,4 @@
-use Rattle.demand.proofs.Third.{call-agrees, call-leaves}
+use Rattle.demand.proofs.Calls.{run-clean, run-pages}
 use borrow.Author.Needs.{needs}
 use Rattle.guarantee.proofs.run.Statement.{statement}
 use Rattle.guarantee.proofs.run.Tie as tie
@@ -19,7 +19,7 @@ same-length-3 : tie.Need-same-length-3
 same-length-3 c = search needs
 
 returns : tie.Need-returns
-returns c = ((c .before .before .before .before .before .before .run .ensures), (call-agrees _ _ _ _ _ _ (c .before .before .before .before .before .before .run .ensures), call-leaves _ _ _ _ _ _ (c .before .before .before .before .before .before .run .ensures)))
+returns c = ((c .before .before .before .before .before .before .run .ensures), (run-clean _ _ _ (c .before .before .before .before .before .before .run .ensures), run-pages _ _ _ (c .before .before .before .before .before .before .run .ensures)))
 
 pub run-spec : {M : Type 1} → statement M
 run-spec = tie.close (tie.spec run-requires same-length same-length-2 same-length-3 returns)

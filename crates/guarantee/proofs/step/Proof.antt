@@ -1,4 +1,4 @@
-use Rattle.demand.proofs.Third.{step-call-leaves}
+use Rattle.demand.proofs.Calls.{step-clean, step-pages}
 use borrow.Author.Needs.{needs}
 use Rattle.guarantee.proofs.step.Statement.{statement}
 use Rattle.guarantee.proofs.step.Tie as tie
@@ -19,7 +19,7 @@ same-length-3 : tie.Need-same-length-3
 same-length-3 c = search needs
 
 returns : tie.Need-returns
-returns c = ((c .before .before .before .before .before .before .step .ensures), step-call-leaves _ _ _ _ _ (c .before .before .before .before .before .before .step .ensures))
+returns c = ((c .before .before .before .before .before .before .step .ensures), (step-clean _ _ (c .before .before .before .before .before .before .step .ensures), step-pages _ _ (c .before .before .before .before .before .before .step .ensures)))
 
 pub step-spec : {M : Type 1} → statement M
 step-spec = tie.close (tie.spec step-requires same-length same-length-2 same-length-3 returns)

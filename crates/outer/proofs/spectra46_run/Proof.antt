@@ -1,4 +1,4 @@
-use Rattle.outer.proofs.Crossings.{run-away, run-back}
+use Rattle.outer.proofs.Crossings.{run-away, run-back, run-meets}
 use borrow.Author.Needs.{needs}
 use Rattle.outer.proofs.spectra46_run.Statement.{statement}
 use Rattle.outer.proofs.spectra46_run.Tie as tie
@@ -8,7 +8,7 @@ use Rattle.engine.proofs.run.Reads as run-reads
 use Rattle.outer.proofs.put_reply.Reads as put-reply-reads
 
 returns : tie.Need-returns
-returns c = search run-away
+returns c = run-meets _ _ _ _ _ _ _ _ _ _ (search run-away)
 
 slice-read-run : tie.Need-slice-read-run
 slice-read-run c = search needs
@@ -38,7 +38,7 @@ same-length-4 : tie.Need-same-length-4
 same-length-4 c = search needs
 
 returns-2 : tie.Need-returns-2
-returns-2 c = search run-back
+returns-2 c = run-meets _ _ _ _ _ _ _ _ _ _ (search run-back)
 
 pub spectra46-run-spec : {M : Type 1} → statement M
 spectra46-run-spec =

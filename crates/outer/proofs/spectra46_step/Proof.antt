@@ -1,4 +1,4 @@
-use Rattle.outer.proofs.Crossings.{step-away, step-back}
+use Rattle.outer.proofs.Crossings.{step-away, step-back, step-meets}
 use borrow.Author.Needs.{needs}
 use Rattle.outer.proofs.spectra46_step.Statement.{statement}
 use Rattle.outer.proofs.spectra46_step.Tie as tie
@@ -8,7 +8,7 @@ use Rattle.engine.proofs.step.Reads as step-reads
 use Rattle.outer.proofs.put_reply.Reads as put-reply-reads
 
 returns : tie.Need-returns
-returns c = search step-away
+returns c = step-meets _ _ _ _ _ _ _ _ _ (search step-away)
 
 slice-read-step : tie.Need-slice-read-step
 slice-read-step c = search needs
@@ -38,7 +38,7 @@ same-length-4 : tie.Need-same-length-4
 same-length-4 c = search needs
 
 returns-2 : tie.Need-returns-2
-returns-2 c = search step-back
+returns-2 c = step-meets _ _ _ _ _ _ _ _ _ (search step-back)
 
 pub spectra46-step-spec : {M : Type 1} → statement M
 spectra46-step-spec =

@@ -1,4 +1,4 @@
-use Rattle.pages.proofs.PlainLaws.{not-ordinary-high, not-ordinary-low, ordinary-is}
+use Rattle.pages.proofs.CompactLaws.{not-ordinary-high, not-ordinary-low, ordinary-is}
 use borrow.Author.Needs.{needs}
 use Rattle.pages.proofs.is_ordinary.Statement.{statement}
 use Rattle.pages.proofs.is_ordinary.Tie as tie

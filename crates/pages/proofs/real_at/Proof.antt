@@ -1,4 +1,4 @@
-use Rattle.pages.specs.Plain.{realOf}
+use Rattle.pages.specs.Compact.{realOf}
 use Rattle.pages.specs.Word.{base, dispOf, real}
 use mathlib.Core.Path.{_∙_, ap}
 use native.Mathlib.Omega.{arith}

@@ -1,5 +1,5 @@
 use Rattle.words.specs.Combine.{combineOf}
-use Rattle.words.proofs.Told.{combine-told, plain-told}
+use Rattle.words.proofs.ByCases.{combine-told, result-told}
 use borrow.Author.Needs.{needs}
 use Rattle.words.proofs.combine.Statement.{statement}
 use Rattle.words.proofs.combine.Tie as tie
@@ -7,8 +7,8 @@ use Rattle.words.proofs.combine.Tie as tie
 enum-told : tie.Need-enum-told
 enum-told c = search needs
 
-plain-requires : tie.Need-plain-requires
-plain-requires c κs = search needs
+result-of-requires : tie.Need-result-of-requires
+result-of-requires c κs = search needs
 
 enum-told-2 : tie.Need-enum-told-2
 enum-told-2 c = search needs
@@ -52,8 +52,8 @@ enum-told-8 c = search needs
 compare-requires : tie.Need-compare-requires
 compare-requires c κs = search needs
 
-plain-requires-2 : tie.Need-plain-requires-2
-plain-requires-2 c κs = search needs
+result-of-requires-2 : tie.Need-result-of-requires-2
+result-of-requires-2 c κs = search needs
 
 enum-told-9 : tie.Need-enum-told-9
 enum-told-9 c = search needs
@@ -73,8 +73,8 @@ enum-told-11 c = search needs
 compare-bits-requires : tie.Need-compare-bits-requires
 compare-bits-requires c κs = search needs
 
-plain-requires-3 : tie.Need-plain-requires-3
-plain-requires-3 c κs = search needs
+result-of-requires-3 : tie.Need-result-of-requires-3
+result-of-requires-3 c κs = search needs
 
 enum-known-op : tie.Need-enum-known-op
 enum-known-op c = search needs
@@ -112,7 +112,7 @@ returns-7 c = search combine-told
 
 returns-8 : tie.Need-returns-8
 unfolding combineOf
-returns-8 c = search (combine-told, plain-told)
+returns-8 c = search (combine-told, result-told)
 
 returns-9 : tie.Need-returns-9
 unfolding combineOf
@@ -124,7 +124,7 @@ returns-10 c = search combine-told
 
 returns-11 : tie.Need-returns-11
 unfolding combineOf
-returns-11 c = search (combine-told, plain-told)
+returns-11 c = search (combine-told, result-told)
 
 returns-12 : tie.Need-returns-12
 unfolding combineOf
@@ -135,7 +135,7 @@ combine-spec =
     tie.close
     (tie.spec
     enum-told
-    plain-requires
+    result-of-requires
     enum-told-2
     test-requires
     enum-told-3
@@ -150,14 +150,14 @@ combine-spec =
     subtract-requires
     enum-told-8
     compare-requires
-    plain-requires-2
+    result-of-requires-2
     enum-told-9
     add-requires-2
     enum-told-10
     subtract-requires-2
     enum-told-11
     compare-bits-requires
-    plain-requires-3
+    result-of-requires-3
     enum-known-op
     bits-requires
     returns

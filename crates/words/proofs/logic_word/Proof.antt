@@ -1,5 +1,5 @@
 use Rattle.words.specs.Combine.{logicOf}
-use Rattle.words.proofs.Told.{logic-told}
+use Rattle.words.proofs.ByCases.{logic-told}
 use borrow.Author.Needs.{needs}
 use Rattle.words.proofs.logic_word.Statement.{statement}
 use Rattle.words.proofs.logic_word.Tie as tie

@@ -4,7 +4,7 @@ use mathlib.Core.Path.{_≡_, refl, sym, _∙_}
 use lib.ListN.{length, length-set}
 use Rattle.pages.specs.Framed.{framedOf}
 use Rattle.actions.specs.Multiple.{filled}
-use Rattle.actions.proofs.Turns.{fill-turn, fill-none}
+use Rattle.actions.proofs.RegisterLoops.{fill-turn, fill-none}
 use Rattle.actions.proofs.rs.fill.Statement.{statement}
 use Rattle.actions.proofs.rs.fill.Tie as tie
 use Rattle.actions.proofs.rs.fill.Reads as reads

@@ -4,7 +4,7 @@ use mathlib.Core.Path.{_≡_, refl, sym, _∙_}
 use lib.ListN.{length}
 use Rattle.pages.specs.Framed.{framedOf}
 use Rattle.actions.specs.Multiple.{spilled}
-use Rattle.actions.proofs.Turns.{spill-turn, spill-none}
+use Rattle.actions.proofs.RegisterLoops.{spill-turn, spill-none}
 use Rattle.actions.proofs.rs.spill.Statement.{statement}
 use Rattle.actions.proofs.rs.spill.Tie as tie
 use Rattle.actions.proofs.rs.spill.Reads as reads

@@ -7,7 +7,7 @@ use Rattle.engine.proofs.fetching.open.Reads as reads
 use Rattle.engine.proofs.fetching.open.Lts as lts
 use Rattle.engine.proofs.fetching.is_seen.Reads as is-seen-reads
 use Rattle.engine.proofs.fetching.shut.Reads as shut-reads
-use Rattle.pages.proofs.is_plain.Reads as is-plain-reads
+use Rattle.pages.proofs.is_compact.Reads as is-compact-reads
 use Rattle.pages.proofs.real_at.Reads as real-at-reads
 
 -- src/fetching.rt:50:17
@@ -19,8 +19,8 @@ is-seen-requires : tie.Need-is-seen-requires
 is-seen-requires c κs = search needs
 
 -- src/fetching.rt:52:12
-is-plain-requires : tie.Need-is-plain-requires
-is-plain-requires c κs = search needs
+is-compact-requires : tie.Need-is-compact-requires
+is-compact-requires c κs = search needs
 
 -- src/fetching.rt:56:23
 real-at-requires : tie.Need-real-at-requires
@@ -28,7 +28,7 @@ real-at-requires c κs = search needs
 
 -- src/fetching.rt:53:13
 returns : tie.Need-returns
-returns c = open-ready _ _ _ _ _ _ _ refl (c .before .before .before .before .is-seen .ensures) (c .before .before .before .if1 .taken) (c .before .before .is-plain .ensures) (c .before .if2 .taken) ((c .real-at .ensures) .0) ((c .real-at .ensures) .1)
+returns c = open-ready _ _ _ _ _ _ _ refl (c .before .before .before .before .is-seen .ensures) (c .before .before .before .if1 .taken) (c .before .before .is-compact .ensures) (c .before .if2 .taken) ((c .real-at .ensures) .0) ((c .real-at .ensures) .1)
 
 -- src/fetching.rt:60:5
 shut-requires : tie.Need-shut-requires
@@ -44,7 +44,7 @@ open-spec =
     (tie.spec
     mul-first
     is-seen-requires
-    is-plain-requires
+    is-compact-requires
     real-at-requires
     returns
     shut-requires

@@ -1,5 +1,5 @@
-use Rattle.engine.proofs.Windows.{window-plain, window-real, window-small, window-room, not-before}
-use Rattle.engine.proofs.Quick.{first-inside, second-inside, third-inside, text-plain}
+use Rattle.engine.proofs.Windows.{window-compact, window-real, window-small, window-room, not-before}
+use Rattle.engine.proofs.CompactText.{first-inside, second-inside, third-inside, text-compact}
 use mathlib.Core.Bool.{true}
 use mathlib.Core.Path.{refl}
 use native.Mathlib.Omega.{arith}
@@ -30,7 +30,7 @@ add-r c = omega (arith, (window-small _ ((c .before .before .before .before .bef
 
 -- src/fetching.rt:81:13
 half-of-requires : tie.Need-half-of-requires
-half-of-requires c κs = first-inside ((c .before .before .before .before .before .before .args .mem .now)) _ _ true (window-plain _ ((c .before .before .before .before .before .before .args .mem .now)) _ (c .before .before .before .before .before .before .pre) _ _ (c .before .before .before .is-inside .ensures) (c .before .before .if1 .taken)) refl _ (window-real _ ((c .before .before .before .before .before .before .args .mem .now)) _ (c .before .before .before .before .before .before .pre) _ _ (c .before .before .before .is-inside .ensures) (c .before .before .if1 .taken) _ refl)
+half-of-requires c κs = first-inside ((c .before .before .before .before .before .before .args .mem .now)) _ _ true (window-compact _ ((c .before .before .before .before .before .before .args .mem .now)) _ (c .before .before .before .before .before .before .pre) _ _ (c .before .before .before .is-inside .ensures) (c .before .before .if1 .taken)) refl _ (window-real _ ((c .before .before .before .before .before .before .args .mem .now)) _ (c .before .before .before .before .before .before .pre) _ _ (c .before .before .before .is-inside .ensures) (c .before .before .if1 .taken) _ refl)
 
 -- src/fetching.rt:82:45
 add-half-of : tie.Need-add-half-of
@@ -38,7 +38,7 @@ add-half-of c = omega (arith, (window-small _ ((c .before .before .before .befor
 
 -- src/fetching.rt:82:13
 half-of-requires-2 : tie.Need-half-of-requires-2
-half-of-requires-2 c κs = second-inside ((c .before .before .before .before .before .before .before .args .mem .now)) _ _ true (window-plain _ ((c .before .before .before .before .before .before .before .args .mem .now)) _ (c .before .before .before .before .before .before .before .pre) _ _ (c .before .before .before .before .is-inside .ensures) (c .before .before .before .if1 .taken)) refl _ (window-real _ ((c .before .before .before .before .before .before .before .args .mem .now)) _ (c .before .before .before .before .before .before .before .pre) _ _ (c .before .before .before .before .is-inside .ensures) (c .before .before .before .if1 .taken) _ refl)
+half-of-requires-2 c κs = second-inside ((c .before .before .before .before .before .before .before .args .mem .now)) _ _ true (window-compact _ ((c .before .before .before .before .before .before .before .args .mem .now)) _ (c .before .before .before .before .before .before .before .pre) _ _ (c .before .before .before .before .is-inside .ensures) (c .before .before .before .if1 .taken)) refl _ (window-real _ ((c .before .before .before .before .before .before .before .args .mem .now)) _ (c .before .before .before .before .before .before .before .pre) _ _ (c .before .before .before .before .is-inside .ensures) (c .before .before .before .if1 .taken) _ refl)
 
 -- src/fetching.rt:83:45
 add-half-of-2 : tie.Need-add-half-of-2
@@ -46,11 +46,11 @@ add-half-of-2 c = omega (arith, (window-small _ ((c .before .before .before .bef
 
 -- src/fetching.rt:83:13
 half-of-requires-3 : tie.Need-half-of-requires-3
-half-of-requires-3 c κs = third-inside ((c .before .before .before .before .before .before .before .before .args .mem .now)) _ _ true (window-plain _ ((c .before .before .before .before .before .before .before .before .args .mem .now)) _ (c .before .before .before .before .before .before .before .before .pre) _ _ (c .before .before .before .before .before .is-inside .ensures) (c .before .before .before .before .if1 .taken)) refl _ (window-real _ ((c .before .before .before .before .before .before .before .before .args .mem .now)) _ (c .before .before .before .before .before .before .before .before .pre) _ _ (c .before .before .before .before .before .is-inside .ensures) (c .before .before .before .before .if1 .taken) _ refl)
+half-of-requires-3 c κs = third-inside ((c .before .before .before .before .before .before .before .before .args .mem .now)) _ _ true (window-compact _ ((c .before .before .before .before .before .before .before .before .args .mem .now)) _ (c .before .before .before .before .before .before .before .before .pre) _ _ (c .before .before .before .before .before .is-inside .ensures) (c .before .before .before .before .if1 .taken)) refl _ (window-real _ ((c .before .before .before .before .before .before .before .before .args .mem .now)) _ (c .before .before .before .before .before .before .before .before .pre) _ _ (c .before .before .before .before .before .is-inside .ensures) (c .before .before .before .before .if1 .taken) _ refl)
 
 -- src/fetching.rt:84:9
 returns : tie.Need-returns
-returns c = text-plain ((c .before .before .before .before .before .before .before .before .before .args .mem .now)) _ _ true (window-plain _ ((c .before .before .before .before .before .before .before .before .before .args .mem .now)) _ (c .before .before .before .before .before .before .before .before .before .pre) _ _ (c .before .before .before .before .before .before .is-inside .ensures) (c .before .before .before .before .before .if1 .taken)) refl _ (window-real _ ((c .before .before .before .before .before .before .before .before .before .args .mem .now)) _ (c .before .before .before .before .before .before .before .before .before .pre) _ _ (c .before .before .before .before .before .before .is-inside .ensures) (c .before .before .before .before .before .if1 .taken) _ refl) _ _ _ (c .before .before .half-of .ensures) (c .before .half-of2 .ensures) (c .half-of3 .ensures)
+returns c = text-compact ((c .before .before .before .before .before .before .before .before .before .args .mem .now)) _ _ true (window-compact _ ((c .before .before .before .before .before .before .before .before .before .args .mem .now)) _ (c .before .before .before .before .before .before .before .before .before .pre) _ _ (c .before .before .before .before .before .before .is-inside .ensures) (c .before .before .before .before .before .if1 .taken)) refl _ (window-real _ ((c .before .before .before .before .before .before .before .before .before .args .mem .now)) _ (c .before .before .before .before .before .before .before .before .before .pre) _ _ (c .before .before .before .before .before .before .is-inside .ensures) (c .before .before .before .before .before .if1 .taken) _ refl) _ _ _ (c .before .before .half-of .ensures) (c .before .half-of2 .ensures) (c .half-of3 .ensures)
 
 -- src/fetching.rt:86:5
 text-requires : tie.Need-text-requires

@@ -7,7 +7,7 @@ use Rattle.pages.specs.Framed.{framedOf}
 use Rattle.machine.specs.Run.{run}
 use Rattle.machine.specs.Step.{step}
 use Rattle.machine.specs.Machine.{opsFor}
-use Rattle.actions.specs.Told.{cpuOf}
+use Rattle.actions.specs.Answered.{cpuOf}
 use Rattle.engine.specs.Entry.{Ready}
 use Rattle.engine.proofs.Runs.{adds, run-start, run-on, run-stop, run-spent}
 use Rattle.engine.proofs.Windows.{shut-ready, ready-after}

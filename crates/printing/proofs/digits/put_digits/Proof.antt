@@ -3,7 +3,7 @@ use lib.ListN.{length}
 use borrow.Author.Needs.{needs}
 use Rattle.printing.specs.Digits.{digitsOf}
 use Rattle.printing.specs.Writing.{spot, wrote}
-use Rattle.printing.proofs.Turns.{digits-turn, digits-end}
+use Rattle.printing.proofs.WritingLoops.{digits-turn, digits-end}
 use Rattle.printing.proofs.digits.put_digits.Statement.{statement}
 use Rattle.printing.proofs.digits.put_digits.Tie as tie
 

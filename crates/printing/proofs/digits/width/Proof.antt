@@ -1,14 +1,14 @@
 use mathlib.Core.Path.{_≡_, refl}
 use Prim.Native.Nat.{_<_}
 use borrow.Author.Needs.{needs}
-use Rattle.printing.specs.Digits.{digitsOf, bare, decimalOf}
+use Rattle.printing.specs.Digits.{digitsOf, trimmed, decimalOf}
 use Rattle.printing.proofs.Places.{width-found, width-next, width-end}
 use Rattle.printing.proofs.digits.width.Statement.{statement}
 use Rattle.printing.proofs.digits.width.Tie as tie
 
 abbrev Inv-loop : tie.InvT-loop
 Inv-loop v left₀ left =
-    (decimalOf v ≡ bare (digitsOf 10 left v)) × (0 < left)
+    (decimalOf v ≡ trimmed (digitsOf 10 left v)) × (0 < left)
 
 abbrev μ-loop : tie.MeasureT-loop
 μ-loop v left₀ left = left

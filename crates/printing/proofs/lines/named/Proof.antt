@@ -1,4 +1,4 @@
-use Rattle.printing.proofs.Laid.{after}
+use Rattle.printing.proofs.WrittenText.{after}
 use borrow.Author.Needs.{needs}
 use Rattle.printing.proofs.lines.named.Statement.{statement}
 use Rattle.printing.proofs.lines.named.Tie as tie

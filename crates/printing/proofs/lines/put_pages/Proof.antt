@@ -4,7 +4,7 @@ use lib.ListN.{length, drop}
 use borrow.Author.Needs.{needs}
 use Rattle.printing.specs.Answer.{pagesFrom}
 use Rattle.printing.specs.Writing.{spot, wrote}
-use Rattle.printing.proofs.Turns.{pages-turn, pages-end, pages-short}
+use Rattle.printing.proofs.WritingLoops.{pages-turn, pages-end, pages-short}
 use Rattle.printing.proofs.lines.put_pages.Statement.{statement}
 use Rattle.printing.proofs.lines.put_pages.Tie as tie
 

@@ -4,7 +4,7 @@ use lib.ListN.{length, drop}
 use borrow.Author.Needs.{needs}
 use Rattle.printing.specs.Answer.{regsFrom}
 use Rattle.printing.specs.Writing.{spot, wrote}
-use Rattle.printing.proofs.Turns.{regs-turn, regs-end}
+use Rattle.printing.proofs.WritingLoops.{regs-turn, regs-end}
 use Rattle.printing.proofs.lines.put_regs.Statement.{statement}
 use Rattle.printing.proofs.lines.put_regs.Tie as tie
 

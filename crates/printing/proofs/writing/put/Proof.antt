@@ -1,4 +1,4 @@
-use Rattle.printing.proofs.Laid.{put-in, put-out}
+use Rattle.printing.proofs.WrittenText.{put-in, put-out}
 use borrow.Author.Needs.{needs}
 use Rattle.printing.proofs.writing.put.Statement.{statement}
 use Rattle.printing.proofs.writing.put.Tie as tie

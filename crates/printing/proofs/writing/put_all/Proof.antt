@@ -3,7 +3,7 @@ use Prim.Native.Nat.{_-_, _≤_}
 use lib.ListN.{length, drop}
 use borrow.Author.Needs.{needs}
 use Rattle.printing.specs.Writing.{spot, wrote}
-use Rattle.printing.proofs.Turns.{text-turn, text-end}
+use Rattle.printing.proofs.WritingLoops.{text-turn, text-end}
 use Rattle.printing.proofs.writing.put_all.Statement.{statement}
 use Rattle.printing.proofs.writing.put_all.Tie as tie
 

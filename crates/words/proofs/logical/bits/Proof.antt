@@ -8,11 +8,11 @@ logic-word-requires c κs = search needs
 zero-code-requires : tie.Need-zero-code-requires
 zero-code-requires c κs = search needs
 
-plain-requires : tie.Need-plain-requires
-plain-requires c κs = search needs
+result-of-requires : tie.Need-result-of-requires
+result-of-requires c κs = search needs
 
 returns : tie.Need-returns
 returns c = cc
 
 pub bits-spec : {M : Type 1} → statement M
-bits-spec = tie.close (tie.spec logic-word-requires zero-code-requires plain-requires returns)
+bits-spec = tie.close (tie.spec logic-word-requires zero-code-requires result-of-requires returns)

@@ -1,5 +1,5 @@
 use native.Mathlib.Omega.{arith}
-use Rattle.words.proofs.Told.{carry-none, carry-one, zero-small}
+use Rattle.words.proofs.ByCases.{carry-none, carry-one, zero-small}
 use borrow.Author.Needs.{needs}
 use Rattle.words.proofs.logical.carry.Statement.{statement}
 use Rattle.words.proofs.logical.carry.Tie as tie
@@ -10,17 +10,17 @@ cast-value c = search needs
 zero-code-requires : tie.Need-zero-code-requires
 zero-code-requires c κs = search needs
 
-plain-requires : tie.Need-plain-requires
-plain-requires c κs = search needs
+result-of-requires : tie.Need-result-of-requires
+result-of-requires c κs = search needs
 
 returns : tie.Need-returns
 returns c = search carry-none
 
-add-plain : tie.Need-add-plain
-add-plain c = omega (arith, zero-small _ _ (c .before .zero-code .ensures))
+add-result-of : tie.Need-add-result-of
+add-result-of c = omega (arith, zero-small _ _ (c .before .zero-code .ensures))
 
-plain-requires-2 : tie.Need-plain-requires-2
-plain-requires-2 c κs = search needs
+result-of-requires-2 : tie.Need-result-of-requires-2
+result-of-requires-2 c κs = search needs
 
 returns-2 : tie.Need-returns-2
 returns-2 c = search carry-one
@@ -31,8 +31,8 @@ carry-spec =
     (tie.spec
     cast-value
     zero-code-requires
-    plain-requires
+    result-of-requires
     returns
-    add-plain
-    plain-requires-2
+    add-result-of
+    result-of-requires-2
     returns-2)

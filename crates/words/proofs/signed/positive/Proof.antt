@@ -3,8 +3,8 @@ use borrow.Author.Needs.{needs}
 use Rattle.words.proofs.signed.positive.Statement.{statement}
 use Rattle.words.proofs.signed.positive.Tie as tie
 
-size-of-requires : tie.Need-size-of-requires
-size-of-requires c κs = search needs
+magnitude-of-requires : tie.Need-magnitude-of-requires
+magnitude-of-requires c κs = search needs
 
 cast-result : tie.Need-cast-result
 cast-result c = search needs
@@ -20,4 +20,4 @@ returns c = search positive-word
 
 pub positive-spec : {M : Type 1} → statement M
 positive-spec =
-    tie.close (tie.spec size-of-requires cast-result add-result result-requires returns)
+    tie.close (tie.spec magnitude-of-requires cast-result add-result result-requires returns)

@@ -16,15 +16,15 @@ use Rattle.pages.specs.declared.Look.{Look}
 use Rattle.pages.specs.declared.Look.the-variants.{At, Refused}
 use Rattle.pages.specs.Word.{bitsX, size, real, pageOf, dispOf, wordOf, Open, accessed, written}
 use Rattle.pages.specs.Tests.{Verdict, fine, bad, tests}
-use Rattle.pages.specs.Look.{lookOf, within, verdictOf}
+use Rattle.pages.specs.Look.{lookOf, testSeven, verdictOf}
 use Rattle.pages.specs.Framed.{Framed, framedOf, lookIn, noted, accessedAt, writtenAt, readAt, readByte, writeAt, writeByte}
 use Rattle.pages.proofs.Marks.{changed, changed-keeps}
 use Rattle.machine.specs.Store.{framed}
 use Rattle.demand.specs.Plain.{Plain, plainOf, bare, stored, plain, lookPlain, notePlain, readIf, readPlain, writeIf, writePlain}
 use Rattle.demand.specs.Premise.{Inside, Apart, Premise}
-use Rattle.demand.specs.Demand.{SamePages}
-use Rattle.demand.proofs.Sim.{Laws}
-use Rattle.demand.proofs.Words.{Twin, base-twin, size-twin, real-twin, open-twin, page-twin, accessed-twin, written-twin, bare-accessed, bare-written, tests-bare, passed}
+use Rattle.demand.specs.DemandThree.{SamePages}
+use Rattle.demand.proofs.AlikeStores.{Laws}
+use Rattle.demand.proofs.PageWords.{Twin, base-twin, size-twin, real-twin, open-twin, page-twin, accessed-twin, written-twin, bare-accessed, bare-written, tests-bare, passed}
 
 -- the tie: the premise, and the same pages
 pub record Same (s : Framed) (q : Plain) : Type 0 where
@@ -159,7 +159,7 @@ abbrev placed : Verdict → ℕ → ℕ → Look
 placed fine r a = At r
 placed (bad c) r a = Refused c a
 
-within-placed : (v : Verdict) (r n a : ℕ) → (v ≡ fine → r < n) → within v r n a ≡ placed v r a
+within-placed : (v : Verdict) (r n a : ℕ) → (v ≡ fine → r < n) → testSeven v r n a ≡ placed v r a
 within-placed fine r n a h = rw (lt-ltb r n (h refl))
 within-placed (bad c) r n a h = refl
 

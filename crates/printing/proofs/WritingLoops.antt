@@ -9,7 +9,7 @@ use lib.Seq.{drop-cons}
 use Rattle.printing.specs.Digits.{digit, digitsOf}
 use Rattle.printing.specs.Answer.{regPart, pagePart, regsFrom, pagesFrom}
 use Rattle.printing.specs.Writing.{Spot, wrote}
-use Rattle.printing.proofs.Laid.{after, wrote-append, wrote-none}
+use Rattle.printing.proofs.WrittenText.{after, wrote-append, wrote-none}
 
 module _ (w s t : Spot) where
   -- the rest is x and then y, and x was written

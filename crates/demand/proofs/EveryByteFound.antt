@@ -14,16 +14,16 @@ use Rattle.pages.specs.declared.Cause.the-variants.{PagingError}
 use Rattle.pages.specs.declared.Look.{Look}
 use Rattle.pages.specs.declared.Look.the-variants.{At, Refused}
 use Rattle.pages.specs.Word.{bitU, bitS, bitE, bitM, bitsX, dispOf, pageOf, real, wordOf, written}
-use Rattle.pages.specs.Tests.{Verdict, fine, bad, tests, table}
-use Rattle.pages.specs.Look.{lookOf, within, verdictOf}
+use Rattle.pages.specs.Tests.{Verdict, fine, bad, tests, sixTests}
+use Rattle.pages.specs.Look.{lookOf, testSeven, verdictOf}
 use Rattle.pages.specs.Framed.{Framed, lookIn, noted, readByte, writtenAt, writeAt, writeByte}
 use Rattle.pages.proofs.Marks.{look-quiet, written-quiet}
 use Rattle.machine.specs.Prog.{Prog, done, fail, look, get, put, Ops, after, interp}
 use Rattle.machine.specs.Store.{framed}
 use Rattle.machine.specs.Cpu.{Cpu}
 use Rattle.machine.specs.Step.{step}
-use Rattle.machine.proofs.Late.{blind}
-use Rattle.machine.proofs.Behind.{Addresses, nowhere, Also, this, that, forStore, Behind, step-behind}
+use Rattle.machine.proofs.MarksLast.{blind}
+use Rattle.demand.proofs.LookedUpFirst.{Addresses, nowhere, Also, this, that, forStore, Behind, step-behind}
 
 -- the look-up of this byte finds it
 abbrev pub Finds : Framed → Access → ℕ → Type 0
@@ -48,7 +48,7 @@ last true = refl
 last false = refl
 
 tests-load : (a w : ℕ) → tests Store a w ≡ fine → tests Load a w ≡ fine
-unfolding tests table
+unfolding tests sixTests
 tests-load a w =
     skip _ _ _ (leb 2097152 a)
     (skip _ _ _ (eqb (bitU w) 0)
@@ -56,12 +56,12 @@ tests-load a w =
     (skip _ _ _ (both (eqb (bitM w) 1) (leb 2048 (dispOf a)))
     (skip _ _ _ (eqb (bitS w) 0) (λ h. last (eqb (bitE w) 1))))))
 
-within-fine : (v v′ : Verdict) (r n a : ℕ) → (v ≡ fine → v′ ≡ fine) → verdictOf (within v r n a) ≡ fine → verdictOf (within v′ r n a) ≡ fine
+within-fine : (v v′ : Verdict) (r n a : ℕ) → (v ≡ fine → v′ ≡ fine) → verdictOf (testSeven v r n a) ≡ fine → verdictOf (testSeven v′ r n a) ≡ fine
 within-fine fine v′ r n a f h = rw (f refl) h
 within-fine (bad c) v′ r n a f h = rw (f h) (absurd (let z : _≡_ {A = ℕ} 0 1 = cc in omega arith))
 
 finds-load : (s : Framed) (acc : Access) (a : ℕ) → Finds s acc a → Finds s Load a
-unfolding lookOf tests table
+unfolding lookOf tests sixTests
 finds-load s Fetch a h = h
 finds-load s Load a h = h
 finds-load s Store a h =

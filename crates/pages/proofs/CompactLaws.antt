@@ -13,7 +13,7 @@ use Rattle.pages.specs.declared.Look.the-variants.{At, Refused}
 use Rattle.pages.specs.Word.{bitU, bitS, bitE, bitM, bitH, bitsX, frame, pageOf, dispOf, next, base, real, wordOf}
 use Rattle.pages.specs.Tests.{isStore}
 use Rattle.pages.specs.Look.{lookOf}
-use Rattle.pages.specs.Plain.{realOf, ordinary, plain}
+use Rattle.pages.specs.Compact.{realOf, ordinary, compact}
 use Rattle.pages.proofs.LookLaws.{look-7}
 
 pub left-of : (a b : Bool) → both a b ≡ true → a ≡ true
@@ -63,15 +63,15 @@ module _ (map : List ℕ) (n : ℕ) (acc : Access) (a w : ℕ) (h : a < 2097152)
       go true e = e
       go false e = refl
 
-  pub plain-byte : real w (dispOf a) < n → At (real w (dispOf a)) ≡ lookOf map n acc a
+  pub compact-byte : real w (dispOf a) < n → At (real w (dispOf a)) ≡ lookOf map n acc a
   unfolding real
-  plain-byte =
+  compact-byte =
       look-7 map n acc a h w ew usable no-x false whole-page refl open-to-all false allowed refl (base w) (base w + dispOf a) refl refl
 
 -- a field
-module _ (map : List ℕ) (n : ℕ) (acc : Access) (a len : ℕ) (b : Bool) (eb : b ≡ plain map n acc a len) (t : b ≡ true) where
+module _ (map : List ℕ) (n : ℕ) (acc : Access) (a len : ℕ) (b : Bool) (eb : b ≡ compact map n acc a len) (t : b ≡ true) where
   all : both (ltb 0 len) (both (ltb a 2097152) (both (leb (a % 4096 + len) 4096) (both (ordinary (wordOf map (pageOf a)) acc) (leb (realOf map a + len) n)))) ≡ true
-  unfolding plain
+  unfolding compact
   all = sym eb ∙ t
 
   all-2 : both (ltb a 2097152) (both (leb (a % 4096 + len) 4096) (both (ordinary (wordOf map (pageOf a)) acc) (leb (realOf map a + len) n))) ≡ true
@@ -83,72 +83,72 @@ module _ (map : List ℕ) (n : ℕ) (acc : Access) (a len : ℕ) (b : Bool) (eb 
   all-4 : both (ordinary (wordOf map (pageOf a)) acc) (leb (realOf map a + len) n) ≡ true
   all-4 = right-of (leb (a % 4096 + len) 4096) (both (ordinary (wordOf map (pageOf a)) acc) (leb (realOf map a + len) n)) all-3
 
-  pub plain-some : 0 < len
-  plain-some = ltb-true 0 len (left-of (ltb 0 len) (both (ltb a 2097152) (both (leb (a % 4096 + len) 4096) (both (ordinary (wordOf map (pageOf a)) acc) (leb (realOf map a + len) n)))) all)
+  pub compact-some : 0 < len
+  compact-some = ltb-true 0 len (left-of (ltb 0 len) (both (ltb a 2097152) (both (leb (a % 4096 + len) 4096) (both (ordinary (wordOf map (pageOf a)) acc) (leb (realOf map a + len) n)))) all)
 
   near : a < 2097152
   near = ltb-true a 2097152 (left-of (ltb a 2097152) (both (leb (a % 4096 + len) 4096) (both (ordinary (wordOf map (pageOf a)) acc) (leb (realOf map a + len) n))) all-2)
 
-  pub plain-fits : a % 4096 + len ≤ 4096
-  plain-fits = leb-true (a % 4096 + len) 4096 (left-of (leb (a % 4096 + len) 4096) (both (ordinary (wordOf map (pageOf a)) acc) (leb (realOf map a + len) n)) all-3)
+  pub compact-fits : a % 4096 + len ≤ 4096
+  compact-fits = leb-true (a % 4096 + len) 4096 (left-of (leb (a % 4096 + len) 4096) (both (ordinary (wordOf map (pageOf a)) acc) (leb (realOf map a + len) n)) all-3)
 
   fair : ordinary (wordOf map (pageOf a)) acc ≡ true
   fair = left-of (ordinary (wordOf map (pageOf a)) acc) (leb (realOf map a + len) n) all-4
 
   -- it lies in memory
-  pub plain-inside : realOf map a + len ≤ n
-  plain-inside = leb-true (realOf map a + len) n (right-of (ordinary (wordOf map (pageOf a)) acc) (leb (realOf map a + len) n) all-4)
+  pub compact-inside : realOf map a + len ≤ n
+  compact-inside = leb-true (realOf map a + len) n (right-of (ordinary (wordOf map (pageOf a)) acc) (leb (realOf map a + len) n) all-4)
 
   -- and below 2,097,152, so that nothing wraps
-  pub plain-below : a + len ≤ 2097152
-  plain-below = omega (arith, near, plain-fits)
+  pub compact-below : a + len ≤ 2097152
+  compact-below = omega (arith, near, compact-fits)
 
-  pub plain-next : (d : ℕ) → d < len → next (a + d) ≡ a + (d + 1)
+  pub compact-next : (d : ℕ) → d < len → next (a + d) ≡ a + (d + 1)
   unfolding next
-  plain-next d h = omega (arith, plain-below)
+  compact-next d h = omega (arith, compact-below)
 
-  pub plain-page : (d : ℕ) → d < len → pageOf (a + d) ≡ pageOf a
+  pub compact-page : (d : ℕ) → d < len → pageOf (a + d) ≡ pageOf a
   unfolding pageOf
-  plain-page d h = omega (arith, plain-fits)
+  compact-page d h = omega (arith, compact-fits)
 
   further : (d : ℕ) → d < len → dispOf (a + d) ≡ dispOf a + d
   unfolding dispOf
-  further d h = omega (arith, plain-fits)
+  further d h = omega (arith, compact-fits)
 
-  pub plain-found : (d : ℕ) → d < len → lookOf map n acc (a + d) ≡ At (realOf map a + d)
+  pub compact-found : (d : ℕ) → d < len → lookOf map n acc (a + d) ≡ At (realOf map a + d)
   unfolding realOf real
-  plain-found d h =
-      sym (plain-byte map n acc (a + d) (wordOf map (pageOf a)) (omega (arith, plain-below)) (ap (wordOf map) (sym (plain-page d h))) fair
+  compact-found d h =
+      sym (compact-byte map n acc (a + d) (wordOf map (pageOf a)) (omega (arith, compact-below)) (ap (wordOf map) (sym (compact-page d h))) fair
       (let e : base (wordOf map (pageOf a)) + dispOf (a + d) ≡ base (wordOf map (pageOf a)) + dispOf a + d = rw (further d h) (omega arith) in
-      let i : base (wordOf map (pageOf a)) + dispOf a + len ≤ n = plain-inside in
+      let i : base (wordOf map (pageOf a)) + dispOf a + len ≤ n = compact-inside in
       omega arith))
       ∙ ap At (rw (further d h) (omega arith))
 
 -- the tests themselves
 module _ (map : List ℕ) (n : ℕ) (acc : Access) (a len : ℕ) where
-  pub not-plain-empty : len ≡ 0 → false ≡ plain map n acc a len
-  unfolding plain
-  not-plain-empty h = rw h
+  pub not-compact-empty : len ≡ 0 → false ≡ compact map n acc a len
+  unfolding compact
+  not-compact-empty h = rw h
 
   module _ (p : len ≡ 0 → ⊥) where
-    pub not-plain-high : 2097152 ≤ a → false ≡ plain map n acc a len
-    unfolding plain
-    not-plain-high h = rw (lt-ltb 0 len (omega arith), le-ltb a 2097152 h)
+    pub not-compact-high : 2097152 ≤ a → false ≡ compact map n acc a len
+    unfolding compact
+    not-compact-high h = rw (lt-ltb 0 len (omega arith), le-ltb a 2097152 h)
 
     module _ (l : a < 2097152) where
-      pub not-plain-far : 4096 - a % 4096 < len → false ≡ plain map n acc a len
-      unfolding plain
-      not-plain-far h = rw (lt-ltb 0 len (omega arith), lt-ltb a 2097152 l, lt-leb (a % 4096 + len) 4096 (omega arith))
+      pub not-compact-far : 4096 - a % 4096 < len → false ≡ compact map n acc a len
+      unfolding compact
+      not-compact-far h = rw (lt-ltb 0 len (omega arith), lt-ltb a 2097152 l, lt-leb (a % 4096 + len) 4096 (omega arith))
 
       module _ (f : len ≤ 4096 - a % 4096) (w : ℕ) (ew : w ≡ wordOf map (pageOf a)) (o : Bool) (eo : o ≡ ordinary w acc) where
-        pub plain-is : (r : ℕ) → r ≡ base w → o ≡ true → leb (r + a % 4096 + len) n ≡ plain map n acc a len
-        unfolding plain realOf real dispOf
-        plain-is r er t =
+        pub compact-is : (r : ℕ) → r ≡ base w → o ≡ true → leb (r + a % 4096 + len) n ≡ compact map n acc a len
+        unfolding compact realOf real dispOf
+        compact-is r er t =
             rw (lt-ltb 0 len (omega arith), lt-ltb a 2097152 l, le-leb (a % 4096 + len) 4096 (omega arith), ← ew, ← eo, t, er)
 
-        pub not-plain-page : o ≡ false → false ≡ plain map n acc a len
-        unfolding plain
-        not-plain-page t =
+        pub not-compact-page : o ≡ false → false ≡ compact map n acc a len
+        unfolding compact
+        not-compact-page t =
             rw (lt-ltb 0 len (omega arith), lt-ltb a 2097152 l, le-leb (a % 4096 + len) 4096 (omega arith), ← ew, ← eo, t)
 
 -- the word's tests

@@ -11,7 +11,7 @@ use Rattle.words.specs.declared.Logic.{Logic}
 use Rattle.words.specs.declared.Res.{Res}
 use Rattle.words.specs.Pick.{pick}
 use Rattle.words.specs.Codes.{zeroCode}
-use Rattle.words.specs.Combine.{combineOf, logicOf, carried, plain}
+use Rattle.words.specs.Combine.{combineOf, logicOf, carried, resultOf}
 
 -- the operation is known to be k
 pub combine-told : (op k : Alu) (a b cc : ℕ) (r : Res) → op ≡ k → r ≡ combineOf k a b cc → r ≡ combineOf op a b cc
@@ -21,16 +21,16 @@ pub logic-told : (op k : Logic) (a b : ℕ) → op ≡ k → logicOf k a b ≡ l
 logic-told op k a b e = ap (λ (o : Logic). logicOf o a b) (sym e)
 
 -- a word whose code a call gave
-pub plain-told : (v k m : ℕ) (r : Res) → k ≡ m → r ≡ plain v k → r ≡ plain v m
-plain-told v k m r e h = h ∙ ap (plain v) e
+pub result-told : (v k m : ℕ) (r : Res) → k ≡ m → r ≡ resultOf v k → r ≡ resultOf v m
+result-told v k m r e h = h ∙ ap (resultOf v) e
 
 -- a logical sum without a carry, and with one
 module _ (s z : ℕ) (r : Res) (e : z ≡ zeroCode (s % 4294967296)) where
-  pub carry-none : s < 4294967296 → r ≡ plain (s % 4294967296) z → r ≡ carried s
+  pub carry-none : s < 4294967296 → r ≡ resultOf (s % 4294967296) z → r ≡ carried s
   unfolding carried
   carry-none l h = h ∙ rw (lt-ltb s 4294967296 l, zero-add, e)
 
-  pub carry-one : 4294967296 ≤ s → r ≡ plain (s % 4294967296) (2 + z) → r ≡ carried s
+  pub carry-one : 4294967296 ≤ s → r ≡ resultOf (s % 4294967296) (2 + z) → r ≡ carried s
   unfolding carried
   carry-one l h = h ∙ rw (le-ltb s 4294967296 l, e)
 

@@ -7,7 +7,7 @@ use lib.ListN.{getD, set}
 use Rattle.pages.specs.Framed.{Framed}
 use Rattle.machine.specs.Rs.{nextReg, nextWord}
 use Rattle.fields.specs.Direct.{readField, writeField}
-use Rattle.fields.proofs.Loops.{pred-suc}
+use Rattle.fields.proofs.ByteLoops.{pred-suc}
 use Rattle.actions.specs.Multiple.{filled, spilled}
 
 pub fill-turn : (s : Framed) (left r a : ℕ) (regs : List ℕ) → 0 < left

@@ -9,7 +9,7 @@ use lib.Dec.{eqb, leb}
 use Rattle.words.specs.Pick.{pick, both}
 use Rattle.pages.specs.declared.Access.{Access}
 use Rattle.pages.specs.Word.{bitU, bitS, bitE, bitM, bitH, bitsX, frame, base, size, real, dispOf, Open, Writable, accessed, written}
-use Rattle.pages.specs.Tests.{fine, bad, Test, firstBad, isStore, tests, table}
+use Rattle.pages.specs.Tests.{fine, bad, Test, firstBad, isStore, tests, sixTests}
 use Rattle.demand.specs.Plain.{bare}
 
 -- two words that differ in their marks at most
@@ -58,7 +58,7 @@ module _ (v w : ℕ) (h : Twin v w) where
   real-twin d = rw base-twin
 
   pub tests-twin : (acc : Access) (a : ℕ) → tests acc a v ≡ tests acc a w
-  unfolding tests table
+  unfolding tests sixTests
   tests-twin acc a = rw (twin-u, twin-x, twin-m, twin-s, twin-e)
 
   pub open-twin : Open v → Open w
@@ -131,7 +131,7 @@ unfolding bitsX
 bare-x w = omega (arith, bare-low w)
 
 pub tests-bare : (acc : Access) (a w : ℕ) → tests acc a (bare w) ≡ tests acc a w
-unfolding tests table
+unfolding tests sixTests
 tests-bare acc a w = rw (bare-u w, bare-x w, bare-m w, bare-s w, bare-e w)
 
 -- what tests 1 to 6 show of a word, when all pass
@@ -162,9 +162,9 @@ not-denied true s h e = sym e ∙ h
 not-denied false s h e = refl
 
 pub passed : (acc : Access) (a w : ℕ) → tests acc a w ≡ fine → Passed acc a w
-unfolding tests table bitU bitS bitE bitsX dispOf size
+unfolding tests sixTests bitU bitS bitE bitsX dispOf size
 passed acc a w h =
-    let all : AllPass (table acc a w) = all-pass (table acc a w) h in
+    let all : AllPass (sixTests acc a w) = all-pass (sixTests acc a w) h in
     record {
       open-page =
           record {

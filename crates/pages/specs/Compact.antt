@@ -1,5 +1,5 @@
 -- Working definitions for the quick way: a field that lies whole in one ordinary page and in memory, where its first byte's look-up is
--- that of all. Nobody has to believe them: proofs/PlainLaws ties them to the look-up.
+-- that of all. Nobody has to believe them: proofs/CompactLaws ties them to the look-up.
 use Prim.Native.Nat.{ℕ, _+_, _/_, _%_}
 use mathlib.Core.Bool.{Bool, true, false, not}
 use mathlib.Core.List.{List}
@@ -19,8 +19,8 @@ ordinary w acc =
     both (eqb (w / 4096 % 4) 3) (both (eqb (w / 64 % 32) 0) (not (both (eqb (bitE w) 1) (isStore acc))))
 
 -- the field of len bytes from a on
-unfoldable pub plain : List ℕ → ℕ → Access → ℕ → ℕ → Bool
-plain map n acc a len =
+unfoldable pub compact : List ℕ → ℕ → Access → ℕ → ℕ → Bool
+compact map n acc a len =
     both (ltb 0 len)
     (both (ltb a 2097152)
     (both (leb (a % 4096 + len) 4096) (both (ordinary (wordOf map (pageOf a)) acc) (leb (realOf map a + len) n))))

@@ -1,7 +1,7 @@
 use Rattle.words.proofs.Lifted.{size-low, size-high}
 use borrow.Author.Needs.{needs}
-use Rattle.words.proofs.signed.size_of.Statement.{statement}
-use Rattle.words.proofs.signed.size_of.Tie as tie
+use Rattle.words.proofs.signed.magnitude_of.Statement.{statement}
+use Rattle.words.proofs.signed.magnitude_of.Tie as tie
 
 sub-result : tie.Need-sub-result
 sub-result c = search needs
@@ -15,5 +15,5 @@ returns c = search (size-low, needs)
 returns-2 : tie.Need-returns-2
 returns-2 c = search (size-high, needs)
 
-pub size-of-spec : {M : Type 1} → statement M
-size-of-spec = tie.close (tie.spec sub-result add-result returns returns-2)
+pub magnitude-of-spec : {M : Type 1} → statement M
+magnitude-of-spec = tie.close (tie.spec sub-result add-result returns returns-2)

@@ -14,15 +14,15 @@ use Rattle.pages.specs.declared.Look.the-variants.{At, Refused}
 use Rattle.words.specs.Pick.{pick}
 use Rattle.pages.specs.Word.{real, pageOf, dispOf, wordOf, Writable, accessed, written}
 use Rattle.pages.specs.Tests.{Verdict, fine, bad, tests}
-use Rattle.pages.specs.Look.{lookOf, within}
+use Rattle.pages.specs.Look.{lookOf, testSeven}
 use Rattle.pages.specs.Framed.{Framed, framedOf, noted, accessedAt, writtenAt, writeAt, writeByte}
 use Rattle.machine.specs.Prog.{Prog, Ops, interp}
 use Rattle.machine.specs.Run.{one, run}
 use Rattle.machine.specs.Store.{framed}
-use Rattle.demand.specs.Demand.{Unwritable}
-use Rattle.demand.proofs.Sim.{Laws, agree, one-alike, runs-alike}
-use Rattle.demand.proofs.Words.{size-twin, real-twin, writable-twin, accessed-twin, written-twin, passed}
-use Rattle.demand.proofs.Ties.{Twins, changed-twins}
+use Rattle.demand.specs.DemandThree.{Unwritable}
+use Rattle.demand.proofs.AlikeStores.{Laws, agree, one-alike, runs-alike}
+use Rattle.demand.proofs.PageWords.{size-twin, real-twin, writable-twin, accessed-twin, written-twin, passed}
+use Rattle.demand.proofs.FramedAsPlain.{Twins, changed-twins}
 
 pub record Keeps {S : Type 0} (o : Ops S) (I : S → Type 0) : Type 0 where
   pub noted : (s : S) (acc : Access) (a : ℕ) → I s → I (o .noted s acc a)
@@ -53,7 +53,7 @@ module _ {C S : Type 0} (o : C → Ops S) (I : S → Type 0) (k : (c : C) → Ke
       .1
 
 -- a byte is written where all tests passed, or nothing is
-writes-keep : (I : Framed → Type 0) (s : Framed) (a v : ℕ) → I s
+pub writes-keep : (I : Framed → Type 0) (s : Framed) (a v : ℕ) → I s
     → (tests Store a (wordOf (s .map) (pageOf a)) ≡ fine
     → I (framedOf (set (s .mem) (real (wordOf (s .map) (pageOf a)) (dispOf a)) v) (writtenAt (s .map) a)))
     → I (writeByte s a v)
@@ -70,7 +70,7 @@ writes-keep I s a v h f = by-verdict (tests Store a word) refl
     by-seventh true e = f e
     by-seventh false e = h
 
-    by-verdict : (t : Verdict) → tests Store a word ≡ t → I (writeAt s a v (within t at (length (s .mem)) a))
+    by-verdict : (t : Verdict) → tests Store a word ≡ t → I (writeAt s a v (testSeven t at (length (s .mem)) a))
     by-verdict fine e = by-seventh (ltb at (length (s .mem))) e
     by-verdict (bad c) e = h
 

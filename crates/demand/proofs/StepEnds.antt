@@ -1,0 +1,343 @@
+-- How a step can end. Its own refusals have numbers of document 01's table; what it is done with is a state in range; and a refusal hands
+-- back the store that it began with. The first two go once through all actions.
+use Prim.Native.Nat.{ℕ, zero, suc, _+_, _*_, _%_, _<_, _≤_}
+use native.Mathlib.Omega.{arith}
+use mathlib.Core.Path.{_≡_, refl, sym, _∙_, ap}
+use mathlib.Core.Bool.{Bool, true, false, not}
+use lib.Dec.{eqb, ltb}
+use lib.Bits.{bitAnd}
+use lib.IntN.{ℤ, pos}
+use lib.Signed.{ltZ}
+use lib.ListN.{length, length-set}
+use Rattle.words.specs.Pick.{pick, both}
+use Rattle.words.specs.declared.Alu.{Alu}
+use Rattle.words.specs.declared.Alu.the-variants.{Load, Test, Complement, Positive, Negative, Add, Subtract, Compare, AddLogical, SubtractLogical, CompareLogical, Bits}
+use Rattle.words.specs.declared.Res.{Res}
+use Rattle.words.specs.Whole.{wordTop, overflows}
+use Rattle.words.specs.Codes.{signCode, compareSigned, compareBits, zeroCode, maskCode}
+use Rattle.words.specs.Combine.{combineOf, resultOf, signedResult, carried}
+use Rattle.pages.specs.declared.Access.{Access}
+use Rattle.pages.specs.declared.Access.the-variants as access
+use Rattle.pages.specs.declared.Cause.{Cause}
+use Rattle.pages.specs.declared.Cause.the-variants.{Addressing, PagingQueue, PagingError}
+use Rattle.pages.specs.Tests.{Verdict, fine, bad, numberOf}
+use Rattle.pages.specs.Word.{next}
+use Rattle.code.specs.declared.Operand.{Operand}
+use Rattle.code.specs.declared.Operand.the-variants.{WordWith, HalfSpread, ByteInserted}
+use Rattle.code.specs.declared.Branch.{Branch}
+use Rattle.code.specs.declared.Branch.the-variants.{OnCondition, AndLink, OnCount}
+use Rattle.code.specs.declared.Action.{Action}
+use Rattle.code.specs.declared.Action.the-variants.{Rr, Rx, Rs, Si, Ss}
+use Rattle.code.specs.declared.Found.{Found}
+use Rattle.code.specs.declared.Found.the-variants.{Known, Unknown}
+use Rattle.code.specs.declared.RrFields.{RrFields}
+use Rattle.code.specs.declared.RrAction.{RrAction}
+use Rattle.code.specs.declared.RrAction.the-variants.{Registers, RegisterBranch}
+use Rattle.code.specs.declared.RxFields.{RxFields}
+use Rattle.code.specs.declared.RxAction.{RxAction}
+use Rattle.code.specs.declared.RxAction.the-variants.{Taking, Storing, LoadAddress, AddressBranch}
+use Rattle.code.specs.declared.RsFields.{RsFields}
+use Rattle.code.specs.declared.RsAction.{RsAction}
+use Rattle.code.specs.declared.RsAction.the-variants.{LoadMultiple, StoreMultiple, ShiftLeft, ShiftRight, BranchHigh, BranchLowEqual}
+use Rattle.code.specs.declared.SiFields.{SiFields}
+use Rattle.code.specs.declared.SiAction.{SiAction}
+use Rattle.code.specs.declared.SiAction.the-variants.{CompareByte, TestMask, BitsByte, MoveByte}
+use Rattle.code.specs.declared.SsFields.{SsFields}
+use Rattle.code.specs.declared.SsAction.{SsAction}
+use Rattle.code.specs.declared.SsAction.the-variants.{MoveField, CompareField}
+use Rattle.code.specs.Table.{actionOf}
+use Rattle.code.specs.Formats.{opOf, rrOf, rxOf, rsOf, siOf, ssOf}
+use Rattle.machine.specs.Prog.{Prog, done, fail, look, get, put, Ops, Answer, finished, refused, after, interp}
+use Rattle.machine.specs.Fields.{looks, gets, puts, moves, compares, bytesOf, aligned, loading, storing, halfword}
+use Rattle.machine.specs.Cpu.{Cpu, reg, withReg, withCode, withPc, withRes, ahead, onward, address, target}
+use Rattle.machine.specs.Branches.{going, chosen, link, lessOne, branch}
+use Rattle.machine.specs.Rr.{rr}
+use Rattle.machine.specs.Rx.{taken, rx, widthOf, rxAddress}
+use Rattle.machine.specs.Rs.{rs, fills, spills, nextReg, nextWord, howMany, rsAddress, isHigh, indexSum}
+use Rattle.machine.specs.Si.{si}
+use Rattle.machine.specs.Ss.{ss, firstAddress, secondAddress}
+use Rattle.machine.specs.Step.{act, known, step}
+
+-- a state in range, as number 6 asks for it
+pub record Sound (c : Cpu) : Type 0 where
+  pub regs : length (c .regs) ≡ 16
+  pub pc : c .pc < 16777216
+  pub code : c .code < 4
+  pub mask : c .mask < 16
+
+-- the numbers of a refused instruction
+abbrev pub Refusal : ℕ → Type 0
+Refusal n = (1 ≤ n) × (n ≤ 5)
+
+pub caused : (c : Cause) → Refusal (numberOf c)
+caused Addressing = (omega arith, omega arith)
+caused PagingQueue = (omega arith, omega arith)
+caused PagingError = (omega arith, omega arith)
+
+two : Refusal 2
+two = (omega arith, omega arith)
+
+five : Refusal 5
+five = (omega arith, omega arith)
+
+-- every way out of a program: refused by itself with such a number, or done with such a result
+unfoldable pub Ends : {R : Type 0} → (R → Type 0) → Prog R → Type 0
+Ends D (done r) = D r
+Ends D (fail n a) = Refusal n
+Ends D (look acc a k) = Ends D k
+Ends D (get a k) = (v : ℕ) → Ends D (k v)
+Ends D (put a v k) = Ends D k
+
+module _ {R : Type 0} (D : R → Type 0) where
+  looks-ends : (acc : Access) (a n : ℕ) (k : Prog R) → Ends D k → Ends D (looks acc a n k)
+  unfolding Ends looks
+  looks-ends acc a zero k h = h
+  looks-ends acc a (suc n) k h = looks-ends acc (next a) n k h
+
+  gets-ends : (a n v : ℕ) (k : ℕ → Prog R) → ((w : ℕ) → Ends D (k w)) → Ends D (gets a n v k)
+  unfolding Ends gets
+  gets-ends a zero v k h = h v
+  gets-ends a (suc n) v k h = λ b. gets-ends (next a) n (v * 256 + b) k h
+
+  puts-ends : (a n v : ℕ) (k : Prog R) → Ends D k → Ends D (puts a n v k)
+  unfolding Ends puts
+  puts-ends a zero v k h = h
+  puts-ends a (suc n) v k h = puts-ends (next a) n v k h
+
+  moves-ends : (a b n : ℕ) (k : Prog R) → Ends D k → Ends D (moves a b n k)
+  unfolding Ends moves
+  moves-ends a b zero k h = h
+  moves-ends a b (suc n) k h = λ v. moves-ends (next a) (next b) n k h
+
+  pick-ends : (t : Bool) (p q : Prog R) → Ends D p → Ends D q → Ends D (pick t p q)
+  pick-ends true p q h i = h
+  pick-ends false p q h i = i
+
+  aligned-ends : (n a : ℕ) (k : Prog R) → Ends D k → Ends D (aligned n a k)
+  unfolding Ends
+  aligned-ends n a k h = pick-ends (eqb (a % n) 0) k (fail 2 a) h two
+
+  loading-ends : (n a : ℕ) (k : ℕ → Prog R) → ((v : ℕ) → Ends D (k v)) → Ends D (loading n a k)
+  unfolding loading
+  loading-ends n a k h = aligned-ends n a _ (looks-ends access.Load a n _ (gets-ends a n 0 k h))
+
+  storing-ends : (n a v : ℕ) (k : Prog R) → Ends D k → Ends D (storing n a v k)
+  unfolding storing
+  storing-ends n a v k h = aligned-ends n a _ (looks-ends access.Store a n _ (puts-ends a n v k h))
+
+  halfword-ends : (a : ℕ) (k : ℕ → Prog R) → ((v : ℕ) → Ends D (k v)) → Ends D (halfword a k)
+  unfolding halfword
+  halfword-ends a k h = looks-ends access.Fetch a 2 _ (gets-ends a 2 0 k h)
+
+-- codes are below 4
+pick-small : (n : ℕ) (b : Bool) (x y : ℕ) → x < n → y < n → pick b x y < n
+pick-small n true x y h i = h
+pick-small n false x y h i = i
+
+sign-small : (z : ℤ) → signCode z < 4
+unfolding signCode
+sign-small z = pick-small 4 (ltZ z (pos 0)) 1 _ (omega arith) (pick-small 4 (ltZ (pos 0) z) 2 0 (omega arith) (omega arith))
+
+signed-small : (y z : ℤ) → compareSigned y z < 4
+unfolding compareSigned
+signed-small y z = pick-small 4 (ltZ y z) 1 _ (omega arith) (pick-small 4 (ltZ z y) 2 0 (omega arith) (omega arith))
+
+bits-small : (x y : ℕ) → compareBits x y < 4
+unfolding compareBits
+bits-small x y = pick-small 4 (ltb x y) 1 _ (omega arith) (pick-small 4 (ltb y x) 2 0 (omega arith) (omega arith))
+
+zero-small : (n : ℕ) → zeroCode n < 2
+unfolding zeroCode
+zero-small n = pick-small 2 (eqb n 0) 0 1 (omega arith) (omega arith)
+
+zero-four : (n : ℕ) → zeroCode n < 4
+zero-four n = omega (arith, zero-small n)
+
+mask-small : (b m : ℕ) → maskCode b m < 4
+unfolding maskCode
+mask-small b m =
+    pick-small 4 (eqb (bitAnd b m) 0) 0 _ (omega arith) (pick-small 4 (eqb (bitAnd b m) m) 3 1 (omega arith) (omega arith))
+
+result-small : (z : ℤ) → (signedResult z) .code < 4
+unfolding signedResult
+result-small z = pick-small 4 (overflows wordTop z) 3 (signCode z) (omega arith) (sign-small z)
+
+carried-small : (s : ℕ) → (carried s) .code < 4
+unfolding carried
+carried-small s =
+    omega (arith, pick-small 3 (ltb s 4294967296) 0 2 (omega arith) (omega arith), zero-small (s % 4294967296))
+
+combine-small : (op : Alu) (a b k : ℕ) → k < 4 → (combineOf op a b k) .code < 4
+unfolding combineOf
+combine-small Load a b k h = h
+combine-small Test a b k h = result-small _
+combine-small Complement a b k h = result-small _
+combine-small Positive a b k h = result-small _
+combine-small Negative a b k h = result-small _
+combine-small Add a b k h = result-small _
+combine-small Subtract a b k h = result-small _
+combine-small Compare a b k h = signed-small _ _
+combine-small AddLogical a b k h = carried-small _
+combine-small SubtractLogical a b k h = carried-small _
+combine-small CompareLogical a b k h = bits-small a b
+combine-small (Bits l) a b k h = zero-four _
+
+taken-small : (op : Operand) (a v k : ℕ) → k < 4 → (taken op a v k) .code < 4
+unfolding taken
+taken-small (WordWith op) a v k h = combine-small op a v k h
+taken-small HalfSpread a v k h = h
+taken-small ByteInserted a v k h = h
+
+-- a state in range stays so
+pub reg-sound : (c : Cpu) (i v : ℕ) → Sound c → Sound (withReg c i v)
+reg-sound c i v h =
+    record { regs = length-set (c .regs) i v ∙ h .regs; pc = h .pc; code = h .code; mask = h .mask }
+
+code-sound : (c : Cpu) (k : ℕ) → k < 4 → Sound c → Sound (withCode c k)
+code-sound c k l h = record { regs = h .regs; pc = h .pc; code = l; mask = h .mask }
+
+pc-sound : (c : Cpu) (a : ℕ) → a < 16777216 → Sound c → Sound (withPc c a)
+pc-sound c a l h = record { regs = h .regs; pc = l; code = h .code; mask = h .mask }
+
+ahead-sound : (c : Cpu) (n : ℕ) → Sound c → Sound (onward c n)
+unfolding ahead
+ahead-sound c n h = pc-sound c (ahead c n) (omega arith) h
+
+res-sound : (c : Cpu) (i : ℕ) (r : Res) → r .code < 4 → Sound c → Sound (withRes c i r)
+res-sound c i r l h = code-sound (withReg c i (r .value)) (r .code) l (reg-sound c i (r .value) h)
+
+going-sound : (b : Bool) (a : ℕ) (c : Cpu) → a < 16777216 → Sound c → Sound (going b a c)
+going-sound true a c l h = pc-sound c a l h
+going-sound false a c l h = h
+
+address-small : (c : Cpu) (x b d : ℕ) → address c x b d < 16777216
+unfolding address
+address-small c x b d = omega arith
+
+branch-sound : (x : Branch) (len r a : ℕ) (may : Bool) (c : Cpu) → a < 16777216 → Sound c → Sound (branch x len r a may c)
+unfolding branch
+branch-sound OnCondition len r a may c l h =
+    going-sound (both may (chosen r (c .code))) a (onward c len) l (ahead-sound c len h)
+branch-sound AndLink len r a may c l h =
+    going-sound may a (withReg (onward c len) r (link c len)) l (reg-sound (onward c len) r (link c len) (ahead-sound c len h))
+branch-sound OnCount len r a may c l h =
+    going-sound (both may (ltb 0 (lessOne (reg c r)))) a (withReg (onward c len) r (lessOne (reg c r))) l
+    (reg-sound (onward c len) r (lessOne (reg c r)) (ahead-sound c len h))
+
+-- the code that a compare of fields hands on is below 4
+compares-ends : (D : Cpu → Type 0) (a b n : ℕ) (k : ℕ → Prog Cpu) → ((w : ℕ) → w < 4 → Ends D (k w)) → Ends D (compares a b n k)
+unfolding Ends compares
+compares-ends D a b zero k h = h 0 (omega arith)
+compares-ends D a b (suc n) k h =
+    λ x y. pick-ends D (eqb x y) _ _ (compares-ends D (next a) (next b) n k h) (h (compareBits x y) (bits-small x y))
+
+fills-ends : (n r a : ℕ) (c : Cpu) → Sound c → Ends Sound (fills n r a c)
+unfolding Ends fills
+fills-ends zero r a c h = h
+fills-ends (suc n) r a c h =
+    gets-ends Sound a 4 0 (λ v. fills n (nextReg r) (nextWord a) (withReg c r v))
+    (λ v. fills-ends n (nextReg r) (nextWord a) (withReg c r v) (reg-sound c r v h))
+
+spills-ends : (n r a : ℕ) (c : Cpu) (k : Prog Cpu) → Ends Sound k → Ends Sound (spills n r a c k)
+unfolding spills
+spills-ends zero r a c k h = h
+spills-ends (suc n) r a c k h =
+    puts-ends Sound a 4 (reg c r) _ (spills-ends n (nextReg r) (nextWord a) c k h)
+
+module _ (c : Cpu) (h : Sound c) where
+  rr-ends : (x : RrAction) (f : RrFields) → Ends Sound (rr x f c)
+  unfolding Ends rr
+  rr-ends (Registers op) f =
+      res-sound (onward c 2) (f .r1) (combineOf op (reg c (f .r1)) (reg c (f .r2)) (c .code))
+      (combine-small op (reg c (f .r1)) (reg c (f .r2)) (c .code) (h .code)) (ahead-sound c 2 h)
+  rr-ends (RegisterBranch b) f = branch-sound b 2 (f .r1) (target c (f .r2)) (ltb 0 (f .r2)) c (omega arith) h
+
+  rx-ends : (x : RxAction) (f : RxFields) → Ends Sound (rx x f c)
+  unfolding Ends rx
+  rx-ends (Taking op) f =
+      loading-ends Sound (bytesOf (widthOf op)) (rxAddress f c) _
+      (λ v. res-sound (onward c 4) (f .r1) (taken op (reg c (f .r1)) v (c .code))
+      (taken-small op (reg c (f .r1)) v (c .code) (h .code)) (ahead-sound c 4 h))
+  rx-ends (Storing w) f =
+      storing-ends Sound (bytesOf w) (rxAddress f c) (reg c (f .r1)) (done (onward c 4)) (ahead-sound c 4 h)
+  rx-ends LoadAddress f = reg-sound (onward c 4) (f .r1) (rxAddress f c) (ahead-sound c 4 h)
+  rx-ends (AddressBranch b) f =
+      branch-sound b 4 (f .r1) (rxAddress f c) true c (address-small c (f .x2) (f .b2) (f .d2)) h
+
+  index-sound : (b : Bool) (f : RsFields) → Sound (going b (rsAddress f c) (withReg (onward c 4) (f .r1) (indexSum f c)))
+  index-sound b f =
+      going-sound b (rsAddress f c) (withReg (onward c 4) (f .r1) (indexSum f c)) (address-small c 0 (f .b2) (f .d2))
+      (reg-sound (onward c 4) (f .r1) (indexSum f c) (ahead-sound c 4 h))
+
+  rs-ends : (x : RsAction) (f : RsFields) → Ends Sound (rs x f c)
+  unfolding Ends rs
+  rs-ends LoadMultiple f =
+      aligned-ends Sound 4 (rsAddress f c) _
+      (looks-ends Sound access.Load (rsAddress f c) (howMany f * 4) _
+      (fills-ends (howMany f) (f .r1) (rsAddress f c) (onward c 4) (ahead-sound c 4 h)))
+  rs-ends StoreMultiple f =
+      aligned-ends Sound 4 (rsAddress f c) _
+      (looks-ends Sound access.Store (rsAddress f c) (howMany f * 4) _
+      (spills-ends (howMany f) (f .r1) (rsAddress f c) c (done (onward c 4)) (ahead-sound c 4 h)))
+  rs-ends ShiftLeft f = reg-sound (onward c 4) (f .r1) _ (ahead-sound c 4 h)
+  rs-ends ShiftRight f = reg-sound (onward c 4) (f .r1) _ (ahead-sound c 4 h)
+  rs-ends BranchHigh f = index-sound (isHigh f c) f
+  rs-ends BranchLowEqual f = index-sound (not (isHigh f c)) f
+
+  si-ends : (x : SiAction) (f : SiFields) → Ends Sound (si x f c)
+  unfolding Ends si
+  si-ends CompareByte f = λ v. code-sound (onward c 4) _ (bits-small v (f .i2)) (ahead-sound c 4 h)
+  si-ends TestMask f = λ v. code-sound (onward c 4) _ (mask-small v (f .i2)) (ahead-sound c 4 h)
+  si-ends (BitsByte l) f = λ v. code-sound (onward c 4) _ (zero-four _) (ahead-sound c 4 h)
+  si-ends MoveByte f = ahead-sound c 4 h
+
+  ss-ends : (x : SsAction) (f : SsFields) → Ends Sound (ss x f c)
+  unfolding Ends ss
+  ss-ends MoveField f =
+      looks-ends Sound access.Store (firstAddress f c) (suc (f .l)) _
+      (looks-ends Sound access.Load (secondAddress f c) (suc (f .l)) _
+      (moves-ends Sound (firstAddress f c) (secondAddress f c) (suc (f .l)) (done (onward c 6)) (ahead-sound c 6 h)))
+  ss-ends CompareField f =
+      looks-ends Sound access.Load (firstAddress f c) (suc (f .l)) _
+      (looks-ends Sound access.Load (secondAddress f c) (suc (f .l)) _
+      (compares-ends Sound (firstAddress f c) (secondAddress f c) (suc (f .l)) _
+      (λ k l. code-sound (onward c 6) k l (ahead-sound c 6 h))))
+
+  act-ends : (x : Action) (h1 : ℕ) → Ends Sound (act x h1 c)
+  unfolding act
+  act-ends (Rr x) h1 = rr-ends x (rrOf h1)
+  act-ends (Rx x) h1 = halfword-ends Sound (ahead c 2) _ (λ h2. rx-ends x (rxOf h1 h2))
+  act-ends (Rs x) h1 = halfword-ends Sound (ahead c 2) _ (λ h2. rs-ends x (rsOf h1 h2))
+  act-ends (Si x) h1 = halfword-ends Sound (ahead c 2) _ (λ h2. si-ends x (siOf h1 h2))
+  act-ends (Ss x) h1 =
+      halfword-ends Sound (ahead c 2) _ (λ h2. halfword-ends Sound (ahead c 4) _ (λ h3. ss-ends x (ssOf h1 h2 h3)))
+
+  known-ends : (x : Found) (h1 : ℕ) → Ends Sound (known x h1 c)
+  unfolding Ends
+  known-ends (Known x) h1 = act-ends x h1
+  known-ends Unknown h1 = five
+
+  pub step-ends : Ends Sound (step c)
+  unfolding Ends step
+  step-ends =
+      pick-ends Sound (eqb (c .pc % 2) 1) (fail 2 (c .pc)) _ two
+      (halfword-ends Sound (c .pc) _ (λ h1. known-ends (actionOf (opOf h1)) h1))
+
+-- what a program came to: done with such a result, or refused with such a number, the store as it was
+abbrev pub Came : {R S : Type 0} → (R → Type 0) → S → Answer R S → Type 0
+Came D kept (finished r t) = D r
+Came D kept (refused n a t) = Refusal n × (t ≡ kept)
+
+module _ {R S : Type 0} (o : Ops S) (D : R → Type 0) (kept : S) where
+  by-verdict : (v : Verdict) (go : S → Answer R S) (t : S) (a : ℕ) → Came D kept (go t) → Came D kept (after v go t a kept)
+  by-verdict fine go t a h = h
+  by-verdict (bad c) go t a h = (caused c, refl)
+
+  pub came : (p : Prog R) (s : S) → Ends D p → Came D kept (interp o p kept s)
+  unfolding Ends interp
+  came (done r) s h = h
+  came (fail n a) s h = (h, refl)
+  came (look acc a k) s h =
+      by-verdict (o .looked s acc a) (λ t. interp o k kept t) (o .noted s acc a) a (came k (o .noted s acc a) h)
+  came (get a k) s h = came (k (o .read s a)) s (h (o .read s a))
+  came (put a v k) s h = came k (o .wrote s a v) h

@@ -1,0 +1,73 @@
+-- Demand 1, as statements: of whatever was lent, what a step or a run hands back. They cite the machine's own questions, `stepOutcome`
+-- and `runOutcome`, and nothing further down; proofs/DemandOneHolds proves each.
+use Prim.Native.Nat.{ℕ, _<_, _≤_}
+use mathlib.Core.Path.{_≡_}
+use mathlib.Core.Logic.{_≢_}
+use mathlib.Core.Bool.{Bool, true, false}
+use lib.Dec.{leb}
+use Rattle.words.specs.Pick.{both}
+use Rattle.machine.specs.Machine.{Given, Outcome, given, outcome, proper, stepOutcome, runOutcome}
+
+-- What was handed back, as it would be lent to the next call: memory, map, registers, counter, code, mask. So `handed o ≡ g` says that
+-- nothing at all was altered.
+abbrev pub handed : Outcome → Given
+handed o = given (o .mem) (o .map) (o .regs) (o .reply .pc) (o .reply .code) (o .reply .mask)
+
+-- A refusal with o's number and place that leaves everything as o has it.
+abbrev pub refusedAt : Outcome → Outcome
+refusedAt o =
+    outcome
+    (record {
+      number = o .reply .number;
+      place = o .reply .place;
+      count = 0;
+      pc = o .reply .pc;
+      code = o .reply .code;
+      mask = o .reply .mask;
+    })
+    (o .mem)
+    (o .map)
+    (o .regs)
+
+-- A single step from g that handed back o.
+pub record CleanStep (g : Given) (o : Outcome) : Type 0 where
+  -- 0 completed, 1 to 5 refused, 6 turned away: no other number comes
+  pub number : o .reply .number ≤ 6
+  -- 6 comes exactly where a list has the wrong size, or counter, code or mask is out of range
+  pub six : o .reply .number ≡ 6 → proper g ≡ false
+  pub always-six : proper g ≡ false → o .reply .number ≡ 6
+  -- refused or turned away, it has left no trace
+  pub trace : o .reply .number ≢ 0 → handed o ≡ g
+  -- only what completed is counted
+  pub completed : o .reply .number ≡ 0 → o .reply .count ≡ 1
+  pub uncounted : o .reply .number ≢ 0 → o .reply .count ≡ 0
+  -- what was proper stays so: what is handed back can be lent again
+  pub again : proper g ≡ true → proper (handed o) ≡ true
+
+-- A run of this budget from g that handed back o.
+pub record CleanRun (budget : ℕ) (g : Given) (o : Outcome) : Type 0 where
+  -- 1 to 5 refused, 6 turned away, 7 budget spent: no other number comes
+  pub number : o .reply .number ≤ 7
+  pub some : o .reply .number ≢ 0
+  -- 6 comes exactly where a list has the wrong size, or counter, code, mask or budget is out of range; then nothing is altered
+  pub six : o .reply .number ≡ 6 → both (proper g) (leb budget 65535) ≡ false
+  pub always-six : both (proper g) (leb budget 65535) ≡ false → o .reply .number ≡ 6
+  pub away : o .reply .number ≡ 6 → (handed o ≡ g) × (o .reply .count ≡ 0)
+  -- the count is never above the budget, and 7 comes exactly with the budget spent
+  pub most : o .reply .count ≤ budget
+  pub spent : o .reply .number ≡ 7 → o .reply .count ≡ budget
+  -- what is handed back is what the run of exactly `count` steps hands back, and that run completes them all
+  pub named : handed o ≡ handed (runOutcome (o .reply .count) g)
+  pub counted : (runOutcome (o .reply .count) g) .reply .count ≡ o .reply .count
+  -- refused (1 to 5): budget was left, and the one step more, from what is handed back, is refused with this number at this place and
+  -- leaves everything as it was before that instruction
+  pub refused : o .reply .number < 6 → (o .reply .count < budget) × (stepOutcome (handed o) ≡ refusedAt o)
+  -- what was proper stays so
+  pub again : proper g ≡ true → proper (handed o) ≡ true
+
+-- The statements: every step and every run is clean, whatever is lent.
+abbrev pub StepsAreClean : Type 0
+StepsAreClean = (g : Given) → CleanStep g (stepOutcome g)
+
+abbrev pub RunsAreClean : Type 0
+RunsAreClean = (budget : ℕ) (g : Given) → CleanRun budget g (runOutcome budget g)
