@@ -17,8 +17,6 @@ use Rattle.machine.specs.Run.{Result, one}
 use Rattle.machine.specs.Fields.{looks, gets, puts, moves, compares, aligned, loading, storing, bytesOf}
 use Rattle.machine.specs.Store.{framed}
 use Rattle.machine.specs.Cpu.{Cpu, reg, withReg, withRes, onward, ahead}
-use Rattle.machine.specs.Rs.{fills, spills, nextReg, nextWord}
-use Rattle.actions.specs.Multiple.{filled, spilled}
 use Rattle.machine.specs.Rr.{rr}
 use Rattle.machine.specs.Rx.{widthOf, taken}
 use Rattle.code.specs.declared.RrAction.{RrAction}
@@ -129,38 +127,6 @@ module _ (regs : List ℕ) (c : Now) (mem map : List ℕ) where
         (ap (λ (m : List ℕ). interp framed k (framedOf mem map) (framedOf mem (noteField m (g .at) (g .len)))) (sym em)
         ∙ ap (λ (m : List ℕ). interp framed k (framedOf mem map) (framedOf mem m)) (sym en)
         ∙ ek))
-
--- n registers filled from storage, and stored there
-fills-is : (n r a : ℕ) (regs : List ℕ) (next : Now) (kept s : Framed)
-    → interp framed (fills n r a (cpuOf regs next)) kept s ≡ finished (cpuOf (filled s n r a regs) next) s
-unfolding fills interp filled
-fills-is zero r a regs next kept s = refl
-fills-is (suc n) r a regs next kept s =
-    gets-is a 4 0 (λ v. fills n (nextReg r) (nextWord a) (withReg (cpuOf regs next) r v)) kept s
-    ∙ fills-is n (nextReg r) (nextWord a) (set regs r (readField s a 4 0)) next kept s
-
-pub fills-done : (n r a : ℕ) (regs regs′ : List ℕ) (next : Now) (kept s : Framed) (c : Cpu) → cpuOf regs next ≡ c → regs′ ≡ filled s n r a regs
-    → interp framed (fills n r a c) kept s ≡ finished (cpuOf regs′ next) s
-fills-done n r a regs regs′ next kept s c ec er =
-    ap (λ (d : Cpu). interp framed (fills n r a d) kept s) (sym ec)
-    ∙ fills-is n r a regs next kept s
-    ∙ ap (λ (x : List ℕ). finished (cpuOf x next) s) (sym er)
-
-pub spills-is : (n r a : ℕ) (regs : List ℕ) (c : Now) (k : Prog Cpu) (kept s : Framed)
-    → interp framed (spills n r a (cpuOf regs c) k) kept s ≡ interp framed k kept (spilled regs n r a s)
-unfolding spills spilled reg
-spills-is zero r a regs c k kept s = refl
-spills-is (suc n) r a regs c k kept s =
-    puts-is a 4 (getD regs r 0) (spills n (nextReg r) (nextWord a) (cpuOf regs c) k) kept s
-    ∙ spills-is n (nextReg r) (nextWord a) regs c k kept (writeField s a 4 (getD regs r 0))
-
-pub spills-done : (n r a : ℕ) (regs : List ℕ) (c next : Now) (k : Prog Cpu) (kept s t : Framed) → t ≡ spilled regs n r a s → done (cpuOf regs next) ≡ k
-    → interp framed (spills n r a (cpuOf regs c) k) kept s ≡ finished (cpuOf regs next) t
-unfolding interp
-spills-done n r a regs c next k kept s t et ek =
-    spills-is n r a regs c k kept s
-    ∙ ap (λ (u : Framed). interp framed k kept u) (sym et)
-    ∙ ap (λ (p : Prog Cpu). interp framed p kept t) (sym ek)
 
 -- a load's last state
 pub taken-done : (regs regs′ : List ℕ) (c : Now) (op : Operand) (r x n a p : ℕ) (res : Res) (s : Framed) → n ≡ bytesOf (widthOf op)

@@ -1,4 +1,3 @@
 pub mod Scalars
 pub mod Looks
 pub mod Executed
-pub mod RegisterLoops

@@ -1,11 +1,7 @@
-// Actions: an executor for each action of the table, by format.
+// What the executors share: the state's scalars, an executor's answer, registers and branches; and the executor of the RR format.
 pub mod branches;
 pub mod registers;
 pub mod rr;
-pub mod rs;
-pub mod rx;
-pub mod si;
-pub mod ss;
 
 use pages::Cause;
 use pages::Look;

@@ -126,10 +126,10 @@ pub fn finish(
     };
     match x {
         Action::Rr(y) => Out::Done(actions::rr::execute(regs, c, y, h1)),
-        Action::Rx(y) => actions::rx::execute(regs, mem, map, c, y, code::split_rx(h1, h2)),
-        Action::Rs(y) => actions::rs::execute(regs, mem, map, c, y, code::split_rs(h1, h2)),
-        Action::Si(y) => actions::si::execute(regs, mem, map, c, y, code::split_si(h1, h2)),
-        Action::Ss(y) => actions::ss::execute(regs, mem, map, c, y, code::split_ss(h1, h2, h3)),
+        Action::Rx(y) => rx_si::rx::execute(regs, mem, map, c, y, code::split_rx(h1, h2)),
+        Action::Rs(y) => rs_ss::rs::execute(regs, mem, map, c, y, code::split_rs(h1, h2)),
+        Action::Si(y) => rx_si::si::execute(regs, mem, map, c, y, code::split_si(h1, h2)),
+        Action::Ss(y) => rs_ss::ss::execute(regs, mem, map, c, y, code::split_ss(h1, h2, h3)),
     }
 }
 

@@ -20,7 +20,7 @@ rsAddress f c = address c 0 (f .b2) (f .d2)
 abbrev pub howMany : RsFields → ℕ
 howMany f = suc ((f .r3 + 16 - f .r1) % 16)
 
--- the register after r, and the address of the next wordTop
+-- the register after r, and the address of the next word
 abbrev pub nextReg : ℕ → ℕ
 nextReg r = (r + 1) % 16
 

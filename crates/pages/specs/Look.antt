@@ -16,7 +16,7 @@ abbrev pub lookSays : Look → Said ℕ
 lookSays (At r) = says 0 r
 lookSays (Refused c a) = says (numberOf c) a
 
--- test 7: the real address r lies testSeven a memory of n bytes
+-- test 7: the real address r lies within a memory of n bytes
 abbrev pub testSeven : Verdict → ℕ → ℕ → ℕ → Look
 testSeven fine r n a = pick (ltb r n) (At r) (Refused Addressing a)
 testSeven (bad c) r n a = Refused c a

@@ -10,7 +10,7 @@ use Rattle.pages.specs.declared.Cause.{Cause}
 use Rattle.pages.specs.declared.Cause.the-variants.{Addressing, PagingQueue, PagingError}
 use Rattle.pages.specs.Word.{bitU, bitS, bitE, bitM, bitsX, dispOf}
 
--- what document 01's sixTests calls each cause
+-- what document 01's table calls each cause
 abbrev pub numberOf : Cause → ℕ
 numberOf Addressing = 1
 numberOf PagingQueue = 3

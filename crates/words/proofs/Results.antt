@@ -39,7 +39,7 @@ module _ (t : ℕ) where
     unfolding signedResult
     result-fits k h s = rw (sym e ∙ h, kept-is t, s)
 
--- x is the wordTop lifted
+-- x is the word lifted
 module _ (b x : ℕ) (r : Res) (e : signed wordTop b ≡ subℕ x 2147483648) where
   pub test-word : r ≡ signedResult (subℕ (x + 2147483648) 4294967296) → r ≡ signedResult (signed wordTop b)
   test-word h = h ∙ ap signedResult (sym (e ∙ test-is x))

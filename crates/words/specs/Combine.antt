@@ -1,4 +1,4 @@
--- What an instruction of two wordTop operands makes of them: the wordTop, the code, and whether a signed result overflowed (in the base
+-- What an instruction of two word operands makes of them: the word, the code, and whether a signed result overflowed (in the base
 -- overflow shows in the code alone). `a` is the first operand, `b` the second, `cc` the code as it was.
 use mathlib.Core.Bool.{Bool, false}
 use Prim.Native.Nat.{ℕ, _+_, _-_, _*_, _/_, _%_, _^_}
@@ -14,7 +14,7 @@ use Rattle.words.specs.Pick.{pick}
 use Rattle.words.specs.Whole.{wordTop, signed, kept, overflows, magnitude}
 use Rattle.words.specs.Codes.{signCode, compareSigned, compareBits, zeroCode}
 
--- a wordTop with a code, nothing overflowed
+-- a word with a code, nothing overflowed
 abbrev pub resultOf : ℕ → ℕ → Res
 resultOf v code = record { value = v; code = code; over = false }
 

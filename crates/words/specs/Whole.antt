@@ -1,4 +1,4 @@
--- The whole number that a wordTop stands for, and what a wordTop keeps of a whole number. `top` is the weight of the sign bit: a wordTop
+-- The whole number that a word stands for, and what a word keeps of a whole number. `top` is the weight of the sign bit: a word
 -- has as many values as top + top. Negative numbers are two's complement (001, L3284; document 01, "The machine we keep").
 use mathlib.Core.Bool.{Bool}
 use Prim.Native.Nat.{ℕ, _+_, _-_, _%_}
@@ -7,7 +7,7 @@ use lib.IntN.{ℤ, pos, negsuc, negℤ, subℕ, natAbs}
 use lib.Signed.{ltZ}
 use Rattle.words.specs.Pick.{pick, either}
 
--- the sign bit of a wordTop, and of a halfword
+-- the weight of the sign bit, in a word and in a halfword
 abbrev pub wordTop : ℕ
 wordTop = 2147483648
 
@@ -18,16 +18,16 @@ halfTop = 32768
 unfoldable pub signed : ℕ → ℕ → ℤ
 signed top a = pick (ltb a top) (pos a) (subℕ a (top + top))
 
--- the low bits of a whole number, as many as the wordTop has
+-- the low bits of a whole number, as many as the word has
 unfoldable pub kept : ℕ → ℤ → ℕ
 kept top (pos n) = n % (top + top)
 kept top (negsuc n) = top + top - 1 - n % (top + top)
 
--- whether no wordTop stands for it: below -top, or top and above
+-- whether no word stands for it: below -top, or top and above
 unfoldable pub overflows : ℕ → ℤ → Bool
 overflows top z = either (ltZ z (negℤ (pos top))) (ltZ (pos (top - 1)) z)
 
--- its magnitude without its sign
+-- its size without its sign
 abbrev pub magnitude : ℤ → ℤ
 magnitude z = pos (natAbs z)
 

@@ -31,7 +31,7 @@ pub enum Alu {
     Bits(Logic),
 }
 
-// A wordTop, the condition code, and whether a signed result overflowed; not of eight bytes, as actions::Now is not.
+// A word, the condition code, and whether a signed result overflowed; not of eight bytes, as actions::Now is not.
 pub struct Res {
     pub value: u32,
     pub code: u32,
@@ -102,7 +102,7 @@ pub fn mask_code(b: u8, mask: u8) -> u32
     if chosen == mask { 3 } else { 1 }
 }
 
-// The sign bit weighs -32768 in a halfword, and the 17 copies of it in the wordTop weigh the same.
+// The sign bit weighs -32768 in a halfword, and the 17 copies of it in the word weigh the same.
 pub fn widen(h: u16) -> u32
     ensures { λ r. ⌜ r ≡ spread h ⌝ }
 {

@@ -1,4 +1,4 @@
-// Signed results without negative numbers. A wordTop is lifted by 2^31, so that its least value is 0, and a result by 2^32; a lifted
+// Signed results without negative numbers. A word is lifted by 2^31, so that its least value is 0, and a result by 2^32; a lifted
 // number t stands for the whole number `subℕ t 4294967296`.
 ghost use mathlib.Core.Path.{_≡_};
 ghost use Prim.Native.Nat.{_+_, _%_, _≤_};

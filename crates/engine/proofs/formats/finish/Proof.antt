@@ -7,10 +7,10 @@ use Rattle.engine.proofs.formats.finish.Tie as tie
 use Rattle.engine.proofs.formats.finish.Reads as reads
 use Rattle.engine.proofs.formats.finish.Lts as lts
 use Rattle.actions.proofs.rr.execute.Reads as rr-execute-reads
-use Rattle.actions.proofs.rs.execute.Reads as rs-execute-reads
-use Rattle.actions.proofs.rx.execute.Reads as rx-execute-reads
-use Rattle.actions.proofs.si.execute.Reads as si-execute-reads
-use Rattle.actions.proofs.ss.execute.Reads as ss-execute-reads
+use Rattle.rs_ss.proofs.rs.execute.Reads as rs-execute-reads
+use Rattle.rx_si.proofs.rx.execute.Reads as rx-execute-reads
+use Rattle.rx_si.proofs.si.execute.Reads as si-execute-reads
+use Rattle.rs_ss.proofs.ss.execute.Reads as ss-execute-reads
 use Rattle.code.proofs.action_of.Reads as action-of-reads
 use Rattle.code.proofs.split_rs.Reads as split-rs-reads
 use Rattle.code.proofs.split_rx.Reads as split-rx-reads

@@ -1,0 +1,2 @@
+mod RegisterLoops
+mod Multiples

@@ -1,0 +1,31 @@
+-- The loops over registers, a turn at a time.
+use Prim.Native.Nat.{ℕ, zero, suc, _-_, _<_, _≤_}
+use native.Mathlib.Omega.{arith}
+use mathlib.Core.Path.{_≡_, refl}
+use mathlib.Core.List.{List}
+use lib.ListN.{getD, set}
+use Rattle.pages.specs.Framed.{Framed}
+use Rattle.machine.specs.Rs.{nextReg, nextWord}
+use Rattle.fields.specs.Direct.{readField, writeField}
+use Rattle.fields.proofs.ByteLoops.{pred-suc}
+use Rattle.rs_ss.specs.Multiple.{filled, spilled}
+
+pub fill-turn : (s : Framed) (left r a : ℕ) (regs : List ℕ) → 0 < left
+    → filled s left r a regs ≡ filled s (left - 1) (nextReg r) (nextWord a) (set regs r (readField s a 4 0))
+unfolding filled
+fill-turn s zero r a regs h = absurd (omega arith)
+fill-turn s (suc k) r a regs h = rw pred-suc
+
+pub fill-none : (s : Framed) (left r a : ℕ) (regs : List ℕ) → left ≤ 0 → filled s left r a regs ≡ regs
+unfolding filled
+fill-none s left r a regs h = let z : left ≡ 0 = omega arith in rw z
+
+pub spill-turn : (regs : List ℕ) (left r a : ℕ) (s : Framed) → 0 < left
+    → spilled regs left r a s ≡ spilled regs (left - 1) (nextReg r) (nextWord a) (writeField s a 4 (getD regs r 0))
+unfolding spilled
+spill-turn regs zero r a s h = absurd (omega arith)
+spill-turn regs (suc k) r a s h = rw pred-suc
+
+pub spill-none : (regs : List ℕ) (left r a : ℕ) (s : Framed) → left ≤ 0 → spilled regs left r a s ≡ s
+unfolding spilled
+spill-none regs left r a s h = let z : left ≡ 0 = omega arith in rw z

@@ -1,0 +1,2 @@
+-- Working definitions for Load Multiple and Store Multiple.
+pub mod Multiple

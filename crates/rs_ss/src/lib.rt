@@ -1,0 +1,3 @@
+// The executors of the formats RS, with registers from R1 to R3, and SS, with two fields of storage.
+pub mod rs;
+pub mod ss;
