@@ -1,0 +1,5 @@
+mod Row
+mod Seen
+mod Words
+mod Pages
+mod Moves

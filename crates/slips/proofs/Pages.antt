@@ -1,0 +1,83 @@
+-- Slips in the look-up of a byte and in the marks: of `pages::look_up`, `note_written` and `next_of`.
+use Prim.Native.Nat.{ℕ, _+_, _*_, _%_}
+use Prim.Native.String.{String}
+use mathlib.Core.Path.{_≡_, refl}
+use mathlib.Core.List.{List, [], _∷_}
+use lib.Dec.{eqb, leb, ltb}
+use lib.ListN.{replicate}
+use lib.Seq.{sets}
+use Rattle.words.specs.Pick.{pick}
+use Rattle.pages.specs.declared.Access.{Access}
+use Rattle.pages.specs.declared.Access.the-variants.{Load}
+use Rattle.pages.specs.declared.Cause.the-variants.{Addressing, PagingError}
+use Rattle.pages.specs.declared.Look.{Look}
+use Rattle.pages.specs.declared.Look.the-variants.{At, Refused}
+use Rattle.pages.specs.Word.{bitH, bitsX, frame, pageOf, dispOf, real, wordOf, written}
+use Rattle.pages.specs.Tests.{test, table, firstBad, numberOf, tests}
+use Rattle.pages.specs.Look.{within, lookOf}
+use Rattle.slips.proofs.Row.{Row, row, alike}
+use Rattle.slips.proofs.Seen.{computes}
+
+-- a look-up in a map and a memory of n bytes
+abbrev LookUp : Type 0
+LookUp = List ℕ → ℕ → Access → ℕ → Look
+
+-- the look-up, but the page's word is found in another way
+abbrev finding : (List ℕ → ℕ → ℕ) → LookUp
+finding find map n acc a =
+    let w = find map (pageOf a) in
+    within (tests acc a w) (real w (dispOf a)) n a
+
+-- found as in a text: a page that has no word is taken for the first whose number ends with its digits, 10 for 110
+abbrev byEnding : List ℕ → ℕ → ℕ
+byEnding map p = pick (eqb (wordOf map p) 0) (wordOf map (p + 100)) (wordOf map p)
+
+-- found by six of the nine bits
+abbrev bySixBits : List ℕ → ℕ → ℕ
+bySixBits map p = wordOf map (p % 64)
+
+-- H honoured when M is reset
+abbrev upperHalf : LookUp
+upperHalf map n acc a =
+    let w = wordOf map (pageOf a) in
+    within (tests acc a w) (frame w * 4096 + pick (eqb (bitH w) 1) 2048 0 + dispOf a) n a
+
+-- X tested before U: right after the first test, and once more in its place
+abbrev xFirst : LookUp
+xFirst map n acc a =
+    let w = wordOf map (pageOf a) in
+    within (firstBad (test (leb 2097152 a) Addressing ∷ test (ltb 0 (bitsX w)) PagingError ∷ table acc a w)) (real w (dispOf a)) n a
+
+-- one byte past memory allowed
+abbrev oneMore : LookUp
+oneMore map n acc a = lookOf map (n + 1) acc a
+
+-- a look-up's number and its real address, or the place of its refusal
+abbrev told : Look → List ℕ
+told (At r) = 0 ∷ r ∷ []
+told (Refused c a) = numberOf c ∷ a ∷ []
+
+-- a load from address a, with this one page word and a memory of 65,536 bytes
+abbrev looked : String → LookUp → ℕ → ℕ → ℕ → Row
+looked slip slipped page word a = row slip (told (lookOf map 65536 Load a)) (told (slipped map 65536 Load a))
+  where
+    map : List ℕ
+    map = sets (replicate 512 0) page (word ∷ [])
+
+-- a W mark that clears G
+abbrev clearing : ℕ → ℕ
+clearing w = 32768 + w % 16384
+
+abbrev slips : List Row
+slips =
+    looked "page 10 found as 110" (finding byEnding) 110 0x3003 0xa000
+    ∷ looked "9 bits of the page's number cut to 6" (finding bySixBits) 10 0x3003 0x4a000
+    ∷ looked "H honoured when M is reset" upperHalf 10 0x3203 0xa000
+    ∷ looked "X tested before U" xFirst 10 0x1043 0xa000
+    ∷ looked "one byte past memory allowed" oneMore 10 0x3010 0xa000
+    ∷ row "a W mark that clears G" (written 0x7003 ∷ []) (clearing 0x7003 ∷ [])
+    ∷ []
+
+pub pages-differ : alike slips ≡ []
+unfolding computes
+pages-differ = refl

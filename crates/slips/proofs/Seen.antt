@@ -1,0 +1,122 @@
+-- What the machine is lent in these tables, what is seen of its outcome, and a step of which one piece is another.
+use Prim.Native.Nat.{ℕ, _%_}
+use Prim.Native.String.{String}
+use mathlib.Core.List.{List, [], _∷_, _++_}
+use lib.Dec.{eqb}
+use lib.ListN.{take, drop, replicate}
+use lib.Seq.{sets}
+use Rattle.words.specs.Pick.{pick}
+use Rattle.words.specs.Whole.{signed, kept, overflows, spread}
+use Rattle.words.specs.Codes.{signCode, compareSigned, compareBits, zeroCode, maskCode}
+use Rattle.words.specs.Combine.{signedResult, carried, logicOf, combineOf, shiftedLeft, shiftedRight}
+use Rattle.pages.specs.declared.Access.{Access}
+use Rattle.pages.specs.Word.{bitW, bitG, bitU, bitS, bitE, bitM, bitH, bitsX, frame, pageOf, dispOf, next, base, size, real, wordOf, accessed, written}
+use Rattle.pages.specs.Tests as tests
+use Rattle.pages.specs.Look.{lookOf}
+use Rattle.pages.specs.Framed.{Framed, accessedAt, writtenAt, readByte, writeByte}
+use Rattle.code.specs.declared.Found.{Found}
+use Rattle.code.specs.declared.RrFields.{RrFields}
+use Rattle.code.specs.declared.RxFields.{RxFields}
+use Rattle.code.specs.declared.RsFields.{RsFields}
+use Rattle.code.specs.declared.SiFields.{SiFields}
+use Rattle.code.specs.declared.SsFields.{SsFields}
+use Rattle.code.specs.Table as code
+use Rattle.code.specs.Formats.{opOf, rrOf, rxOf, rsOf, siOf, ssOf}
+use Rattle.machine.specs.Prog.{Prog, Answer, finished, refused, done, fail, look, get, put, after, interp}
+use Rattle.machine.specs.Run.{Result, one, run}
+use Rattle.machine.specs.Store.{framed}
+use Rattle.machine.specs.Fields.{looks, gets, puts, moves, compares, loading, storing, halfword}
+use Rattle.machine.specs.Cpu.{Cpu, reg, ahead, part, address}
+use Rattle.machine.specs.Branches.{chosen, link, lessOne, branch}
+use Rattle.machine.specs.Rr.{rr}
+use Rattle.machine.specs.Rx.{taken, rx}
+use Rattle.machine.specs.Rs.{fills, spills, indexSum, comparand, isHigh, rs}
+use Rattle.machine.specs.Si.{si}
+use Rattle.machine.specs.Ss.{ss}
+use Rattle.machine.specs.Step.{act, known, step}
+use Rattle.machine.specs.Machine.{Given, Outcome, given, proper, turnedAway, cpuIn, storeIn, outcomeOf, stepOutcome, runOutcome}
+use Rattle.slips.proofs.Row.{Row, row}
+
+-- the definitions that the tables of machines compute
+unfoldable pub computes : Unit {0}
+unfolding signed kept overflows spread signCode compareSigned compareBits zeroCode maskCode signedResult carried logicOf combineOf
+    shiftedLeft shiftedRight bitW bitG bitU bitS bitE bitM bitH bitsX frame pageOf dispOf next base size real wordOf accessed written
+    tests.table tests.tests lookOf accessedAt writtenAt readByte writeByte code.table code.actionOf interp run looks gets puts moves
+    compares loading storing halfword reg ahead part address chosen link lessOne branch rr taken rx fills spills indexSum comparand
+    isHigh rs si ss act step proper stepOutcome runOutcome
+computes = tt
+
+-- Memory is two frames. Page 10 has the first; page 11 has this word, 3001 for the second. These bytes stand from 00AFF0 on, sixteen to
+-- the end of page 10 and the others in the second frame. These registers, from 0 on; this counter; code and mask zero.
+abbrev pub lent : List ℕ → ℕ → List ℕ → ℕ → Given
+lent bytes word regs pc =
+    given (sets (replicate 8192 0) 4080 bytes) (sets (replicate 512 0) 10 (0x3000 ∷ word ∷ [])) (sets (replicate 16 0) 0 regs) pc 0 0
+
+-- the instruction is the first of the bytes, and page 11 is there
+abbrev pub lone : List ℕ → List ℕ → Given
+lone bytes regs = lent bytes 0x3001 regs 0xaff0
+
+-- number, place, count, counter, code, mask; every register; the words of pages 10 to 13; the 32 bytes from 00AFF0 on
+abbrev pub seen : Outcome → List ℕ
+seen o =
+    o .reply .number
+    ∷ o .reply .place
+    ∷ o .reply .count
+    ∷ o .reply .pc
+    ∷ o .reply .code
+    ∷ o .reply .mask
+    ∷ (o .regs ++ take 4 (drop 10 (o .map)) ++ take 32 (drop 4080 (o .mem)))
+
+-- the door, and behind it this answer
+abbrev pub behindDoor : (Given → Result Cpu Framed) → Given → Outcome
+behindDoor answer g = pick (proper g) (outcomeOf (answer g)) (turnedAway g)
+
+-- one step by this program
+abbrev pub stepBy : (Cpu → Prog Cpu) → Given → Outcome
+stepBy program =
+    behindDoor (λ g. one (cpuIn g) (interp framed (program (cpuIn g)) (storeIn g) (storeIn g)))
+
+-- the interpreter, but a look-up that fails hands back what `left` makes of the store before the instruction and of the store as it is now
+abbrev pub interpBy : {R : Type 0} → (Framed → Framed → Access → ℕ → Framed) → Prog R → Framed → Framed → Answer R Framed
+interpBy left (done r) kept s = finished r s
+interpBy left (fail n a) kept s = refused n a kept
+interpBy left (look acc a k) kept s =
+    after (framed .looked s acc a) (λ t. interpBy left k kept t) (framed .noted s acc a) a (left kept s acc a)
+interpBy left (get a k) kept s = interpBy left (k (framed .read s a)) kept s
+interpBy left (put a v k) kept s = interpBy left k kept (framed .wrote s a v)
+
+-- one step by this program, which may leave a trace
+abbrev pub stepLeaving : (Framed → Framed → Access → ℕ → Framed) → (Cpu → Prog Cpu) → Given → Outcome
+stepLeaving left program =
+    behindDoor (λ g. one (cpuIn g) (interpBy left (program (cpuIn g)) (storeIn g) (storeIn g)))
+
+-- the machine's step, but operation `op` is this
+abbrev pub stepBut : ℕ → (ℕ → Cpu → Prog Cpu) → Cpu → Prog Cpu
+stepBut op program c =
+    pick (eqb (c .pc % 2) 1)
+    (fail 2 (c .pc))
+    (halfword (c .pc) (λ h1. pick (eqb (opOf h1) op) (program h1 c) (known (code.actionOf (opOf h1)) h1 c)))
+
+-- an action, with the rest of the instruction fetched as its format has it
+abbrev pub asRr : (RrFields → Cpu → Prog Cpu) → ℕ → Cpu → Prog Cpu
+asRr action h1 c = action (rrOf h1) c
+
+abbrev pub asRx : (RxFields → Cpu → Prog Cpu) → ℕ → Cpu → Prog Cpu
+asRx action h1 c = halfword (ahead c 2) (λ h2. action (rxOf h1 h2) c)
+
+abbrev pub asRs : (RsFields → Cpu → Prog Cpu) → ℕ → Cpu → Prog Cpu
+asRs action h1 c = halfword (ahead c 2) (λ h2. action (rsOf h1 h2) c)
+
+abbrev pub asSi : (SiFields → Cpu → Prog Cpu) → ℕ → Cpu → Prog Cpu
+asSi action h1 c = halfword (ahead c 2) (λ h2. action (siOf h1 h2) c)
+
+abbrev pub asSs : (SsFields → Cpu → Prog Cpu) → ℕ → Cpu → Prog Cpu
+asSs action h1 c = halfword (ahead c 2) (λ h2. halfword (ahead c 4) (λ h3. action (ssOf h1 h2 h3) c))
+
+-- a row of two steps from the same start: the machine's, and a slipped one
+abbrev pub steps : String → (Given → Outcome) → Given → Row
+steps slip slipped g = row slip (seen (stepOutcome g)) (seen (slipped g))
+
+-- a row of a slip in one operation: `engine::step` has the promise
+abbrev pub operation : String → ℕ → (ℕ → Cpu → Prog Cpu) → Given → Row
+operation slip op program g = steps slip (stepBy (stepBut op program)) g
