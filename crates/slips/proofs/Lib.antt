@@ -3,3 +3,4 @@ mod Seen
 mod Words
 mod Pages
 mod Moves
+mod Refusals

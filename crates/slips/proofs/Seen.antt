@@ -46,17 +46,18 @@ unfolding signed kept overflows spread signCode compareSigned compareBits zeroCo
     isHigh rs si ss act step proper stepOutcome runOutcome
 computes = tt
 
--- Memory is two frames. Page 10 has the first; page 11 has this word, 3001 for the second. These bytes stand from 00AFF0 on, sixteen to
--- the end of page 10 and the others in the second frame. These registers, from 0 on; this counter; code and mask zero.
-abbrev pub lent : List ℕ → ℕ → List ℕ → ℕ → Given
-lent bytes word regs pc =
-    given (sets (replicate 8192 0) 4080 bytes) (sets (replicate 512 0) 10 (0x3000 ∷ word ∷ [])) (sets (replicate 16 0) 0 regs) pc 0 0
+-- Memory is one frame, and pages 10 and 11 both lie on it: page 10 with word 3000, page 11 with the word that is said. So what follows
+-- page 10's last byte in page 11 is the frame's first byte. These bytes begin the frame, these stand from place 4,080 to its end; these
+-- registers, from 0 on; this counter; code and mask zero.
+abbrev pub lent : List ℕ → List ℕ → ℕ → List ℕ → ℕ → Given
+lent first last word regs pc =
+    given (sets (sets (replicate 4096 0) 4080 last) 0 first) (sets (replicate 512 0) 10 (0x3000 ∷ word ∷ [])) (sets (replicate 16 0) 0 regs) pc 0 0
 
--- the instruction is the first of the bytes, and page 11 is there
+-- an instruction at 00A000, and perhaps its operand
 abbrev pub lone : List ℕ → List ℕ → Given
-lone bytes regs = lent bytes 0x3001 regs 0xaff0
+lone bytes regs = lent bytes [] 0 regs 0xa000
 
--- number, place, count, counter, code, mask; every register; the words of pages 10 to 13; the 32 bytes from 00AFF0 on
+-- number, place, count, counter, code, mask; every register; the words of pages 10 and 11; the first and the last 16 bytes of memory
 abbrev pub seen : Outcome → List ℕ
 seen o =
     o .reply .number
@@ -65,7 +66,7 @@ seen o =
     ∷ o .reply .pc
     ∷ o .reply .code
     ∷ o .reply .mask
-    ∷ (o .regs ++ take 4 (drop 10 (o .map)) ++ take 32 (drop 4080 (o .mem)))
+    ∷ (o .regs ++ take 2 (drop 10 (o .map)) ++ take 16 (o .mem) ++ drop 4080 (o .mem))
 
 -- the door, and behind it this answer
 abbrev pub behindDoor : (Given → Result Cpu Framed) → Given → Outcome
