@@ -4,3 +4,6 @@ mod Words
 mod Pages
 mod Moves
 mod Refusals
+mod Operations
+mod Branches
+mod Order

@@ -2,7 +2,7 @@
 use Prim.Native.Nat.{ℕ}
 use mathlib.Core.Path.{_≡_, refl}
 use mathlib.Core.List.{List, [], _∷_, _++_}
-use lib.ListN.{drop, replicate}
+use lib.ListN.{take, drop, replicate}
 use Rattle.words.specs.Pick.{pick}
 use Rattle.pages.specs.declared.Access.{Access}
 use Rattle.pages.specs.declared.Access.the-variants.{Fetch, Load, Store}
@@ -79,8 +79,12 @@ lookedUp s a n = store (interp framed (looks Load a n (done tt)) s s)
     store (finished r t) = t
     store (refused m p t) = t
 
+-- pages 10 and 11, and their words
 abbrev twoPages : Framed
 twoPages = storeIn (lent [] [] 0x3000 [] 0)
+
+abbrev marks : Framed → List ℕ
+marks s = take 2 (drop 10 (s .map))
 
 -- this instruction at 00A000; register 1 with a word, register 2 with the address of page 11, which has this word and holds FF at 4
 abbrev onPage11 : List ℕ → ℕ → Given
@@ -105,7 +109,8 @@ slips =
     ∷ steps "the counter moved by a refusal" (stepSpoiling (movedBy 4)) (onPage11 (0x58 ∷ 0x10 ∷ 0x20 ∷ 4 ∷ []) 0)
     -- the LA again, with page 11 there; a halfword from 00AFFF on
     ∷ steps "G on the first page of an instruction only" (stepMarking counterPage) (atTheEnd 0x3000)
-    ∷ row "G on the first page of an operand only" (drop 10 (lookedUp twoPages 0xafff 2 .map)) (drop 10 (firstPage twoPages 0xafff 2 .map))
+    ∷ row "G on the first page of an operand only" (marks (lookedUp twoPages 0xafff 2))
+    (marks (firstPage twoPages 0xafff 2))
     ∷ []
 
 pub refusals-differ : alike slips ≡ []
