@@ -7,3 +7,6 @@ mod Refusals
 mod Operations
 mod Branches
 mod Order
+mod Runs
+mod Sheets
+mod Answers
