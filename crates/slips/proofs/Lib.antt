@@ -10,3 +10,4 @@ mod Order
 mod Runs
 mod Sheets
 mod Answers
+mod Plain
