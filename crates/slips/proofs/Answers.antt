@@ -1,13 +1,15 @@
 -- Slips in printing the answer: of functions of `printing::lines`, of `printing::digits`, and of `sheet::answer`.
 use Prim.Native.Nat.{ℕ, _+_, _%_}
+use Prim.Native.String.{String}
 use mathlib.Core.Path.{_≡_, refl}
 use mathlib.Core.List.{List, [], _∷_, _++_}
 use lib.Dec.{eqb, ltb}
+use lib.ListN.{length}
 use Rattle.words.specs.Pick.{pick}
 use Rattle.printing.specs.Digits.{digit, digitsOf, hexOf, bare, decimalOf}
 use Rattle.printing.specs.Lines.{STOP, LF, field, stopLine, regLine, startLine, pageLine}
 use Rattle.printing.specs.Answer.{regPart, pagePart, regsFrom, pagesFrom, answerText}
-use Rattle.slips.proofs.Row.{Row, row, alike}
+use Rattle.slips.proofs.Row.{Row, row, unshown}
 
 -- the definitions that this table computes
 unfoldable computes : Unit {0}
@@ -43,20 +45,24 @@ decimalPlace number place count =
 abbrev noneAltered : List ℕ → List ℕ → List ℕ
 noneAltered before after = answerText 7 0 1 0xa004 0 0 [] after after
 
+-- a row of two texts: their lengths, then their characters
+abbrev texts : String → List ℕ → List ℕ → ℕ → ℕ → Row
+texts slip right slipped one other = row slip (length right ∷ right) (length slipped ∷ slipped) one other
+
 abbrev slips : List Row
 slips =
     -- printing::lines::page_part and reg_part
-    row "page word from before" (pagePart 10 0x3003 0x7003) (wordBefore 10 0x3003 0x7003)
-    ∷ row "marks already there printed as altered" (pagePart 10 0x7003 0x7003) (markedBefore 10 0x7003 0x7003)
-    ∷ row "a zero register printed" (regPart 1 0) (everyRegister 1 0)
-    ∷ row "a register left out by its number" (regPart 0 5) (byItsNumber 0 5)
+    texts "page word from before" (pagePart 10 0x3003 0x7003) (wordBefore 10 0x3003 0x7003) 55 51
+    ∷ texts "marks already there printed as altered" (pagePart 10 0x7003 0x7003) (markedBefore 10 0x7003 0x7003) 0 13
+    ∷ texts "a zero register printed" (regPart 1 0) (everyRegister 1 0) 0 15
+    ∷ texts "a register left out by its number" (regPart 0 5) (byItsNumber 0 5) 15 0
     -- printing::digits::digit_at; printing::lines::stop_line
-    ∷ row "lower-case hex" (digit 10 ∷ []) (lowerCase 10 ∷ [])
-    ∷ row "decimal place" (stopLine 3 0xa000 0) (decimalPlace 3 0xa000 0)
+    ∷ texts "lower-case hex" (digit 10 ∷ []) (lowerCase 10 ∷ []) 65 97
+    ∷ texts "decimal place" (stopLine 3 0xa000 0) (decimalPlace 3 0xa000 0) 16 15
     -- sheet::answer
-    ∷ row "no page counts as altered" (answerText 7 0 1 0xa004 0 0 [] (0x3003 ∷ []) (0x7003 ∷ [])) (noneAltered (0x3003 ∷ []) (0x7003 ∷ []))
+    ∷ texts "no page counts as altered" (answerText 7 0 1 0xa004 0 0 [] (0x3003 ∷ []) (0x7003 ∷ [])) (noneAltered (0x3003 ∷ []) (0x7003 ∷ [])) 45 33
     ∷ []
 
-pub answers-differ : alike slips ≡ []
+pub answers-differ : unshown slips ≡ []
 unfolding computes
 answers-differ = refl

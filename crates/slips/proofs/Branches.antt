@@ -15,7 +15,7 @@ use Rattle.machine.specs.Cpu.{Cpu, reg, withReg, withPc, onward, ahead, target}
 use Rattle.machine.specs.Branches.{going, link, branch}
 use Rattle.machine.specs.Rx.{rxAddress}
 use Rattle.machine.specs.Rs.{rsAddress, indexSum, comparand}
-use Rattle.slips.proofs.Row.{Row, alike}
+use Rattle.slips.proofs.Row.{Row, unshown}
 use Rattle.slips.proofs.Seen.{computes, lone, operation, asRr, asRx, asRs}
 
 -- BALR that stores the link before it reads the target
@@ -52,21 +52,21 @@ logicalCompare f c =
 abbrev slips : List Row
 slips =
     -- BALR 1,1
-    operation "BALR storing the link before reading the target" 0x05 (asRr linkFirst) (lone (0x05 ∷ 0x11 ∷ []) (0 ∷ 0xc000 ∷ []))
+    operation "BALR storing the link before reading the target" 0x05 (asRr linkFirst) (lone (0x05 ∷ 0x11 ∷ []) (0 ∷ 0xc000 ∷ [])) 0xc000 0xa002
     -- BAL 1,0(2)
-    ∷ operation "BAL's length code in bytes" 0x45 (asRx lengthInBytes) (lone (0x45 ∷ 0x10 ∷ 0x20 ∷ 0 ∷ []) (0 ∷ 0 ∷ 0xc000 ∷ []))
+    ∷ operation "BAL's length code in bytes" 0x45 (asRx lengthInBytes) (lone (0x45 ∷ 0x10 ∷ 0x20 ∷ 0 ∷ []) (0 ∷ 0 ∷ 0xc000 ∷ [])) 0x8000a004 0xa004
     -- BCTR 1,0
-    ∷ operation "BCTR branching through register 0" 0x06 (asRr throughZero) (lone (0x06 ∷ 0x10 ∷ []) (0xc000 ∷ 5 ∷ []))
+    ∷ operation "BCTR branching through register 0" 0x06 (asRr throughZero) (lone (0x06 ∷ 0x10 ∷ []) (0xc000 ∷ 5 ∷ [])) 0xa002 0xc000
     -- BC 8,0(2)
-    ∷ operation "branch mask from the right" 0x47 (asRx fromTheRight) (lone (0x47 ∷ 0x80 ∷ 0x20 ∷ 0 ∷ []) (0 ∷ 0 ∷ 0xc000 ∷ []))
+    ∷ operation "branch mask from the right" 0x47 (asRx fromTheRight) (lone (0x47 ∷ 0x80 ∷ 0x20 ∷ 0 ∷ []) (0 ∷ 0 ∷ 0xc000 ∷ [])) 0xc000 0xa004
     -- BXLE 3,4,0(2), where 5 is compared with: 6 and 1; BXLE 5,4,0(2), where R1 itself is
     ∷ operation "BXLE comparand read after the sum is stored" 0x87 (asRs sumFirst)
-    (lone (0x87 ∷ 0x54 ∷ 0x20 ∷ 0 ∷ []) (0 ∷ 0 ∷ 0xc000 ∷ 0 ∷ 1 ∷ 5 ∷ []))
+    (lone (0x87 ∷ 0x54 ∷ 0x20 ∷ 0 ∷ []) (0 ∷ 0 ∷ 0xc000 ∷ 0 ∷ 1 ∷ 5 ∷ [])) 0xa004 0xc000
     -- BXLE 3,4,0(2): -1 and 0 against 1
     ∷ operation "BXLE with a logical compare" 0x87 (asRs logicalCompare)
-    (lone (0x87 ∷ 0x34 ∷ 0x20 ∷ 0 ∷ []) (0 ∷ 0 ∷ 0xc000 ∷ 0xffffffff ∷ 0 ∷ 1 ∷ []))
+    (lone (0x87 ∷ 0x34 ∷ 0x20 ∷ 0 ∷ []) (0 ∷ 0 ∷ 0xc000 ∷ 0xffffffff ∷ 0 ∷ 1 ∷ [])) 0xc000 0xa004
     ∷ []
 
-pub branches-differ : alike slips ≡ []
+pub branches-differ : unshown slips ≡ []
 unfolding computes
 branches-differ = refl

@@ -1,13 +1,14 @@
-mod Row
-mod Seen
-mod Words
-mod Pages
-mod Moves
-mod Refusals
-mod Operations
-mod Branches
-mod Order
-mod Runs
-mod Sheets
-mod Answers
-mod Plain
+pub mod Row
+pub mod Seen
+pub mod Words
+pub mod Pages
+pub mod Moves
+pub mod Refusals
+pub mod Operations
+pub mod Branches
+pub mod Order
+pub mod Runs
+pub mod Sheets
+pub mod Answers
+pub mod Plain
+pub mod Weak

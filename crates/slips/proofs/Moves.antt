@@ -18,7 +18,7 @@ use Rattle.machine.specs.Fields.{looks, gets, puts, moves, compares}
 use Rattle.machine.specs.Cpu.{Cpu, withCode, onward}
 use Rattle.machine.specs.Ss.{firstAddress, secondAddress}
 use Rattle.machine.specs.Machine.{Given}
-use Rattle.slips.proofs.Row.{Row, row, alike}
+use Rattle.slips.proofs.Row.{Row, row, unshown}
 use Rattle.slips.proofs.Seen.{computes, lent, stepLeaving, stepBut, asSs, steps, operation}
 
 -- each byte looked up just before it is moved
@@ -112,24 +112,24 @@ abbrev slips : List Row
 slips =
     -- MVC 0(4,2),0(3), with page 11 absent
     steps "the first page of a move stored, then the second found absent" (stepLeaving allSoFar (stepBut 0xd2 (asSs moveAsFound)))
-    (crossing (0xd2 ∷ 3 ∷ 0x20 ∷ 0 ∷ 0x30 ∷ 0 ∷ []) 0)
+    (crossing (0xd2 ∷ 3 ∷ 0x20 ∷ 0 ∷ 0x30 ∷ 0 ∷ []) 0) 0x55 0x11
     -- MVC 0(4,3),0(4), with E set on page 11
     ∷ operation "E tested on the field that is only read" 0xd2 (asSs bothStored)
-    (crossing (0xd2 ∷ 3 ∷ 0x30 ∷ 0 ∷ 0x40 ∷ 0 ∷ []) 0x3800)
+    (crossing (0xd2 ∷ 3 ∷ 0x30 ∷ 0 ∷ 0x40 ∷ 0 ∷ []) 0x3800) 0 4
     -- MVC 0(4,4),0(0), with page 11 absent as page 0 is
     ∷ operation "the second field looked up before the first" 0xd2 (asSs secondFirst)
-    (crossing (0xd2 ∷ 3 ∷ 0x40 ∷ 0 ∷ 0 ∷ 0 ∷ []) 0)
+    (crossing (0xd2 ∷ 3 ∷ 0x40 ∷ 0 ∷ 0 ∷ 0 ∷ []) 0) 0xb000 0
     -- MVC 1(4,3),0(3)
-    ∷ operation "MVC as a block" 0xd2 (asSs asBlock) (crossing (0xd2 ∷ 3 ∷ 0x30 ∷ 1 ∷ 0x30 ∷ 0 ∷ []) 0)
+    ∷ operation "MVC as a block" 0xd2 (asSs asBlock) (crossing (0xd2 ∷ 3 ∷ 0x30 ∷ 1 ∷ 0x30 ∷ 0 ∷ []) 0) 0x11 0x22
     -- CLC 0(4,2),0(3), with page 11 absent
-    ∷ operation "CLC that ends its look-ups early" 0xd5 (asSs endingEarly) (crossing (0xd5 ∷ 3 ∷ 0x20 ∷ 0 ∷ 0x30 ∷ 0 ∷ []) 0)
+    ∷ operation "CLC that ends its look-ups early" 0xd5 (asSs endingEarly) (crossing (0xd5 ∷ 3 ∷ 0x20 ∷ 0 ∷ 0x30 ∷ 0 ∷ []) 0) 3 0
     -- CLC 0(1,2),0(3)
-    ∷ operation "CLC without its last byte" 0xd5 (asSs withoutLast) (crossing (0xd5 ∷ 0 ∷ 0x20 ∷ 0 ∷ 0x30 ∷ 0 ∷ []) 0)
+    ∷ operation "CLC without its last byte" 0xd5 (asSs withoutLast) (crossing (0xd5 ∷ 0 ∷ 0x20 ∷ 0 ∷ 0x30 ∷ 0 ∷ []) 0) 2 0
     -- two bytes from 00AFFC to 00AFFF on
     ∷ row "MVC going on into the next frame in place of the next page" (firsts (worked folded 0xafff 0xaffc 2))
-    (firsts (alongFrames folded 0xafff 0xaffc 2))
+    (firsts (alongFrames folded 0xafff 0xaffc 2)) 2 0
     ∷ []
 
-pub moves-differ : alike slips ≡ []
+pub moves-differ : unshown slips ≡ []
 unfolding computes
 moves-differ = refl

@@ -16,7 +16,7 @@ use Rattle.machine.specs.Fields.{looks, aligned, storing}
 use Rattle.machine.specs.Cpu.{Cpu, reg, withReg, withCode, onward, part}
 use Rattle.machine.specs.Rx.{rxAddress}
 use Rattle.machine.specs.Rs.{rsAddress, howMany, fills}
-use Rattle.slips.proofs.Row.{Row, alike}
+use Rattle.slips.proofs.Row.{Row, unshown}
 use Rattle.slips.proofs.Seen.{computes, lone, operation, asRx, asRs}
 
 -- a store whose address sum keeps more than 24 bits
@@ -58,21 +58,21 @@ abbrev slips : List Row
 slips =
     -- ST 1,0(2,3): 00A00C and FFFFFC
     operation "address sums that do not wrap at 24 bits" 0x50 (asRx longAddress)
-    (lone (0x50 ∷ 0x12 ∷ 0x30 ∷ 0 ∷ []) (0 ∷ 9 ∷ 0xa00c ∷ 0xfffffc ∷ []))
+    (lone (0x50 ∷ 0x12 ∷ 0x30 ∷ 0 ∷ []) (0 ∷ 9 ∷ 0xa00c ∷ 0xfffffc ∷ [])) 0 1
     -- LA 1,1(2): FF000000
-    ∷ operation "LA that keeps a top byte" 0x41 (asRx topByte) (lone (0x41 ∷ 0x12 ∷ 0 ∷ 1 ∷ []) (0 ∷ 0 ∷ 0xff000000 ∷ []))
+    ∷ operation "LA that keeps a top byte" 0x41 (asRx topByte) (lone (0x41 ∷ 0x12 ∷ 0 ∷ 1 ∷ []) (0 ∷ 0 ∷ 0xff000000 ∷ [])) 1 0xff000001
     -- LA 1,5
-    ∷ operation "index 0 read as register 0" 0x41 (asRx indexZero) (lone (0x41 ∷ 0x10 ∷ 0 ∷ 5 ∷ []) (7 ∷ []))
+    ∷ operation "index 0 read as register 0" 0x41 (asRx indexZero) (lone (0x41 ∷ 0x10 ∷ 0 ∷ 5 ∷ []) (7 ∷ [])) 5 12
     -- STH 1,8(2)
-    ∷ operation "STH of the upper half" 0x40 (asRx upperHalf) (lone (0x40 ∷ 0x12 ∷ 0 ∷ 8 ∷ []) (0 ∷ 0x12345678 ∷ 0xa000 ∷ []))
-    ∷ operation "low byte stored first" 0x40 (asRx lowByteFirst) (lone (0x40 ∷ 0x12 ∷ 0 ∷ 8 ∷ []) (0 ∷ 0x12345678 ∷ 0xa000 ∷ []))
+    ∷ operation "STH of the upper half" 0x40 (asRx upperHalf) (lone (0x40 ∷ 0x12 ∷ 0 ∷ 8 ∷ []) (0 ∷ 0x12345678 ∷ 0xa000 ∷ [])) 0x56 0x12
+    ∷ operation "low byte stored first" 0x40 (asRx lowByteFirst) (lone (0x40 ∷ 0x12 ∷ 0 ∷ 8 ∷ []) (0 ∷ 0x12345678 ∷ 0xa000 ∷ [])) 0x56 0x78
     -- LM 15,0,8(2)
     ∷ operation "LM that stops at 15 and does not wrap" 0x98 (asRs upTo15)
-    (lone (0x98 ∷ 0xf0 ∷ 0x20 ∷ 8 ∷ 0 ∷ 0 ∷ 0 ∷ 0 ∷ 1 ∷ 2 ∷ 3 ∷ 4 ∷ 5 ∷ 6 ∷ 7 ∷ 8 ∷ []) (0 ∷ 0 ∷ 0xa000 ∷ []))
+    (lone (0x98 ∷ 0xf0 ∷ 0x20 ∷ 8 ∷ 0 ∷ 0 ∷ 0 ∷ 0 ∷ 1 ∷ 2 ∷ 3 ∷ 4 ∷ 5 ∷ 6 ∷ 7 ∷ 8 ∷ []) (0 ∷ 0 ∷ 0xa000 ∷ [])) 0x05060708 0
     -- SLL 1,1
-    ∷ operation "a condition code after SLL" 0x89 (asRs coded) (lone (0x89 ∷ 0x10 ∷ 0 ∷ 1 ∷ []) (0 ∷ 3 ∷ []))
+    ∷ operation "a condition code after SLL" 0x89 (asRs coded) (lone (0x89 ∷ 0x10 ∷ 0 ∷ 1 ∷ []) (0 ∷ 3 ∷ [])) 0 1
     ∷ []
 
-pub operations-differ : alike slips ≡ []
+pub operations-differ : unshown slips ≡ []
 unfolding computes
 operations-differ = refl

@@ -24,7 +24,7 @@ use Rattle.machine.specs.Rx.{rxAddress, rx}
 use Rattle.machine.specs.Ss.{ss}
 use Rattle.machine.specs.Step.{known}
 use Rattle.machine.specs.Machine.{Given}
-use Rattle.slips.proofs.Row.{Row, row, alike}
+use Rattle.slips.proofs.Row.{Row, row, unshown}
 use Rattle.slips.proofs.Seen.{computes, lent, lone, stepBy, asRx, steps, operation}
 
 -- the first halfword looked up before the odd test
@@ -80,21 +80,21 @@ ending bytes n regs = lent [] (replicate (16 - n) 0 ++ bytes) 0 regs (0xb000 - n
 abbrev slips : List Row
 slips =
     -- at 00B001, with page 11 absent
-    steps "looked up before the odd test" (stepBy oddSecond) (lent [] [] 0 [] 0xb001)
+    steps "looked up before the odd test" (stepBy oddSecond) (lent [] [] 0 [] 0xb001) 2 3
     -- operation 44, of four bytes and not in the set
-    ∷ steps "operation tested after the remaining halfwords" (stepBy operationLast) (ending (0x44 ∷ 0 ∷ []) 2 [])
+    ∷ steps "operation tested after the remaining halfwords" (stepBy operationLast) (ending (0x44 ∷ 0 ∷ []) 2 []) 5 3
     -- L 1,0(2) of which page 10 has half; register 2 is odd
-    ∷ operation "boundary tested before the fetch is whole" 0x58 boundaryEarly (ending (0x58 ∷ 0x12 ∷ []) 2 (0 ∷ 0 ∷ 1 ∷ []))
+    ∷ operation "boundary tested before the fetch is whole" 0x58 boundaryEarly (ending (0x58 ∷ 0x12 ∷ []) 2 (0 ∷ 0 ∷ 1 ∷ [])) 3 2
     -- L 1,1(2), with page 11 absent
-    ∷ operation "boundary tested after the look-up" 0x58 (asRx boundaryLate) (lone (0x58 ∷ 0x12 ∷ 0 ∷ 1 ∷ []) (0 ∷ 0 ∷ 0xb000 ∷ []))
+    ∷ operation "boundary tested after the look-up" 0x58 (asRx boundaryLate) (lone (0x58 ∷ 0x12 ∷ 0 ∷ 1 ∷ []) (0 ∷ 0 ∷ 0xb000 ∷ [])) 2 3
     -- MVC at 00AFFC
-    ∷ operation "third halfword not looked up" 0xd2 thirdUnseen (ending (0xd2 ∷ 0 ∷ 0x20 ∷ 0 ∷ []) 4 (0 ∷ 0 ∷ 0xa000 ∷ []))
+    ∷ operation "third halfword not looked up" 0xd2 thirdUnseen (ending (0xd2 ∷ 0 ∷ 0x20 ∷ 0 ∷ []) 4 (0 ∷ 0 ∷ 0xa000 ∷ [])) 0xb000 0
     -- SLL 1,1
-    ∷ steps "SLL and SRL swapped" (stepBy (stepFinding swapped)) (lone (0x89 ∷ 0x10 ∷ 0 ∷ 1 ∷ []) (0 ∷ 6 ∷ []))
+    ∷ steps "SLL and SRL swapped" (stepBy (stepFinding swapped)) (lone (0x89 ∷ 0x10 ∷ 0 ∷ 1 ∷ []) (0 ∷ 6 ∷ [])) 12 3
     -- code::split_ss
-    ∷ row "the SS length byte of four bits" (told (ssOf 0xd2ff 0x2000 0x3000)) (told (shortLength 0xd2ff 0x2000 0x3000))
+    ∷ row "the SS length byte of four bits" (told (ssOf 0xd2ff 0x2000 0x3000)) (told (shortLength 0xd2ff 0x2000 0x3000)) 255 15
     ∷ []
 
-pub order-differs : alike slips ≡ []
+pub order-differs : unshown slips ≡ []
 unfolding computes
 order-differs = refl

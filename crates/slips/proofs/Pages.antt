@@ -15,7 +15,7 @@ use Rattle.pages.specs.declared.Look.the-variants.{At, Refused}
 use Rattle.pages.specs.Word.{bitH, bitsX, frame, pageOf, dispOf, real, wordOf, written}
 use Rattle.pages.specs.Tests.{test, table, firstBad, numberOf, tests}
 use Rattle.pages.specs.Look.{within, lookOf}
-use Rattle.slips.proofs.Row.{Row, row, alike}
+use Rattle.slips.proofs.Row.{Row, row, unshown}
 use Rattle.slips.proofs.Seen.{computes}
 
 -- a look-up in a map and a memory of n bytes
@@ -58,8 +58,9 @@ told (At r) = 0 ∷ r ∷ []
 told (Refused c a) = numberOf c ∷ a ∷ []
 
 -- a load from address a, with this one page word and a memory of 65,536 bytes
-abbrev looked : String → LookUp → ℕ → ℕ → ℕ → Row
-looked slip slipped page word a = row slip (told (lookOf map 65536 Load a)) (told (slipped map 65536 Load a))
+abbrev looked : String → LookUp → ℕ → ℕ → ℕ → ℕ → ℕ → Row
+looked slip slipped page word a one other =
+    row slip (told (lookOf map 65536 Load a)) (told (slipped map 65536 Load a)) one other
   where
     map : List ℕ
     map = sets (replicate 512 0) page (word ∷ [])
@@ -70,14 +71,14 @@ clearing w = 32768 + w % 16384
 
 abbrev slips : List Row
 slips =
-    looked "page 10 found as 110" (finding byEnding) 110 0x3003 0xa000
-    ∷ looked "9 bits of the page's number cut to 6" (finding bySixBits) 10 0x3003 0x4a000
-    ∷ looked "H honoured when M is reset" upperHalf 10 0x3203 0xa000
-    ∷ looked "X tested before U" xFirst 10 0x1043 0xa000
-    ∷ looked "one byte past memory allowed" oneMore 10 0x3010 0xa000
-    ∷ row "a W mark that clears G" (written 0x7003 ∷ []) (clearing 0x7003 ∷ [])
+    looked "page 10 found as 110" (finding byEnding) 110 0x3003 0xa000 3 0
+    ∷ looked "9 bits of the page's number cut to 6" (finding bySixBits) 10 0x3003 0x4a000 3 0
+    ∷ looked "H honoured when M is reset" upperHalf 10 0x3203 0xa000 12288 14336
+    ∷ looked "X tested before U" xFirst 10 0x1043 0xa000 3 4
+    ∷ looked "one byte past memory allowed" oneMore 10 0x3010 0xa000 1 0
+    ∷ row "a W mark that clears G" (written 0x7003 ∷ []) (clearing 0x7003 ∷ []) 0xf003 0xb003
     ∷ []
 
-pub pages-differ : alike slips ≡ []
+pub pages-differ : unshown slips ≡ []
 unfolding computes
 pages-differ = refl

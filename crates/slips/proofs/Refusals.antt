@@ -15,7 +15,7 @@ use Rattle.machine.specs.Fields.{looks}
 use Rattle.machine.specs.Cpu.{Cpu, withPc, onward}
 use Rattle.machine.specs.Step.{step}
 use Rattle.machine.specs.Machine.{Given, Outcome, cpuIn, storeIn}
-use Rattle.slips.proofs.Row.{Row, row, alike}
+use Rattle.slips.proofs.Row.{Row, row, unshown}
 use Rattle.slips.proofs.Seen.{computes, lent, behindDoor, stepLeaving, steps}
 
 -- W set by a store that is refused
@@ -97,22 +97,22 @@ atTheEnd word = lent (0 ∷ 5 ∷ []) (replicate 14 0 ++ 0x41 ∷ 0x10 ∷ []) w
 abbrev slips : List Row
 slips =
     -- ST 1,4(2) to a page with E set, and to one that is absent
-    steps "W set by a store that was refused" (stepLeaving writtenAnyway step) (onPage11 (0x50 ∷ 0x10 ∷ 0x20 ∷ 4 ∷ []) 0x3800)
-    ∷ steps "G set by a refused instruction" (stepLeaving accessedAnyway step) (onPage11 (0x50 ∷ 0x10 ∷ 0x20 ∷ 4 ∷ []) 0)
+    steps "W set by a store that was refused" (stepLeaving writtenAnyway step) (onPage11 (0x50 ∷ 0x10 ∷ 0x20 ∷ 4 ∷ []) 0x3800) 0x3800 0xb800
+    ∷ steps "G set by a refused instruction" (stepLeaving accessedAnyway step) (onPage11 (0x50 ∷ 0x10 ∷ 0x20 ∷ 4 ∷ []) 0) 0x3000 0x7000
     -- IC 1,4(2) from a page that is absent; NI, OI and XI to one with E set
-    ∷ steps "IC not undone on a page fault" (stepSpoiling notUndone) (onPage11 (0x43 ∷ 0x10 ∷ 0x20 ∷ 4 ∷ []) 0)
-    ∷ steps "NI not undone on a page fault" (stepSpoiling notUndone) (onPage11 (0x94 ∷ 0x10 ∷ 0x20 ∷ 4 ∷ []) 0x3800)
-    ∷ steps "OI not undone on a page fault" (stepSpoiling notUndone) (onPage11 (0x96 ∷ 0x10 ∷ 0x20 ∷ 4 ∷ []) 0x3800)
-    ∷ steps "XI not undone on a page fault" (stepSpoiling notUndone) (onPage11 (0x97 ∷ 0x10 ∷ 0x20 ∷ 4 ∷ []) 0x3800)
+    ∷ steps "IC not undone on a page fault" (stepSpoiling notUndone) (onPage11 (0x43 ∷ 0x10 ∷ 0x20 ∷ 4 ∷ []) 0) 0x12345678 0x12345600
+    ∷ steps "NI not undone on a page fault" (stepSpoiling notUndone) (onPage11 (0x94 ∷ 0x10 ∷ 0x20 ∷ 4 ∷ []) 0x3800) 0 1
+    ∷ steps "OI not undone on a page fault" (stepSpoiling notUndone) (onPage11 (0x96 ∷ 0x10 ∷ 0x20 ∷ 4 ∷ []) 0x3800) 0 1
+    ∷ steps "XI not undone on a page fault" (stepSpoiling notUndone) (onPage11 (0x97 ∷ 0x10 ∷ 0x20 ∷ 4 ∷ []) 0x3800) 0 1
     -- LA with its second halfword in page 11, which is absent; L 1,4(2) from that page
-    ∷ steps "the counter moved after a failed fetch" (stepSpoiling (movedBy 2)) (atTheEnd 0)
-    ∷ steps "the counter moved by a refusal" (stepSpoiling (movedBy 4)) (onPage11 (0x58 ∷ 0x10 ∷ 0x20 ∷ 4 ∷ []) 0)
+    ∷ steps "the counter moved after a failed fetch" (stepSpoiling (movedBy 2)) (atTheEnd 0) 0xaffe 0xb000
+    ∷ steps "the counter moved by a refusal" (stepSpoiling (movedBy 4)) (onPage11 (0x58 ∷ 0x10 ∷ 0x20 ∷ 4 ∷ []) 0) 0xa000 0xa004
     -- the LA again, with page 11 there; a halfword from 00AFFF on
-    ∷ steps "G on the first page of an instruction only" (stepMarking counterPage) (atTheEnd 0x3000)
+    ∷ steps "G on the first page of an instruction only" (stepMarking counterPage) (atTheEnd 0x3000) 0x7000 0x3000
     ∷ row "G on the first page of an operand only" (marks (lookedUp twoPages 0xafff 2))
-    (marks (firstPage twoPages 0xafff 2))
+    (marks (firstPage twoPages 0xafff 2)) 0x7000 0x3000
     ∷ []
 
-pub refusals-differ : alike slips ≡ []
+pub refusals-differ : unshown slips ≡ []
 unfolding computes
 refusals-differ = refl

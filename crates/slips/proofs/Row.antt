@@ -1,34 +1,80 @@
--- A row of the tables: a slip, said in plain words; what the right definition answers on some input; and what the slipped definition
--- answers on the same input. Where the two differ, no proof of the slipped program can exist, whatever its shape: `not-slipped`.
+-- A row of the tables: a slip in plain words, what the right definition answers on some input, and what the slipped definition answers on
+-- the same input. The promise of a function is an equation with the right definition for every input; so where the two answers differ, no
+-- proof of the slipped program can exist, whatever its shape: `not-slipped`.
 use Prim.Native.Nat.{ℕ}
 use Prim.Native.String.{String}
-use mathlib.Core.Path.{_≡_, refl, sym, _∙_, ap}
+use mathlib.Core.Path.{_≡_, refl, sym, _∙_, ap, subst}
 use mathlib.Core.Logic.{_≢_}
 use mathlib.Core.Bool.{Bool, true, false}
 use mathlib.Core.List.{List, [], _∷_}
-use lib.Dec.{eqb}
+use borrow.Author.Tests.{eq-eqb}
+use lib.Dec.{T, eqb}
 use Rattle.words.specs.Pick.{pick, both}
 
+-- `one` and `other` are the numbers of the right and of the slipped answer at the first place where the two part
 pub record Row : Type 0 where
   pub slip : String
   pub right : List ℕ
   pub slipped : List ℕ
+  pub one : ℕ
+  pub other : ℕ
 
-abbrev pub row : String → List ℕ → List ℕ → Row
-row slip right slipped = record { slip = slip; right = right; slipped = slipped }
+abbrev pub row : String → List ℕ → List ℕ → ℕ → ℕ → Row
+row slip right slipped one other = record { slip = slip; right = right; slipped = slipped; one = one; other = other }
 
-abbrev pub same : List ℕ → List ℕ → Bool
-same [] [] = true
-same [] (y ∷ ys) = false
-same (x ∷ xs) [] = false
-same (x ∷ xs) (y ∷ ys) = both (eqb x y) (same xs ys)
+-- the two lists part, and with these numbers
+abbrev pub part : List ℕ → List ℕ → ℕ → ℕ → Bool
+part [] ys one other = false
+part (x ∷ xs) [] one other = false
+part (x ∷ xs) (y ∷ ys) one other =
+    let rest = part xs ys one other in
+    pick (eqb x y) rest (both (eqb x one) (eqb y other))
 
--- the slips that their rows fail to show: the two answers are alike
-abbrev pub alike : List Row → List String
-alike [] = []
-alike (r ∷ rs) = let rest = alike rs in pick (same (r .right) (r .slipped)) (r .slip ∷ rest) rest
+-- the slips that their rows fail to show
+abbrev pub unshown : List Row → List String
+unshown [] = []
+unshown (r ∷ rs) =
+    let rest = unshown rs in
+    pick (part (r .right) (r .slipped) (r .one) (r .other)) rest (r .slip ∷ rest)
 
 -- Whatever meets the promise of the right definition is not the slipped one, if on one input the two differ in what is seen.
 pub not-slipped : {A B : Type 0} (f right slipped : A → B) → ((x : A) → f x ≡ right x)
     → (x : A) (see : B → List ℕ) → see (right x) ≢ see (slipped x) → ((y : A) → f y ≡ slipped y) → ⊥
 not-slipped f right slipped promise x see differ is-slipped = differ (ap see (sym (promise x) ∙ is-slipped x))
+
+-- A table that leaves no slip unshown has a difference in each row.
+abbrev pub Differ : List Row → Type 0
+Differ [] = Unit {0}
+Differ (r ∷ rs) = (r .right ≢ r .slipped) × Differ rs
+
+self-part : (xs : List ℕ) (one other : ℕ) → part xs xs one other ≡ false
+self-part [] one other = refl
+self-part (x ∷ xs) one other =
+    ap (λ (b : Bool). pick b (part xs xs one other) (both (eqb x one) (eqb x other))) (eq-eqb x x refl) ∙ self-part xs one other
+
+abbrev Some : List String → Type 0
+Some [] = ⊥
+Some (s ∷ ss) = Unit {0}
+
+first : (r : Row) (rest : List String)
+    → pick (part (r .right) (r .slipped) (r .one) (r .other)) rest (r .slip ∷ rest) ≡ []
+    → (r .right ≢ r .slipped) × (rest ≡ [])
+first r rest e = go (part (r .right) (r .slipped) (r .one) (r .other)) refl e
+  where
+    go : (b : Bool) → part (r .right) (r .slipped) (r .one) (r .other) ≡ b → pick b rest (r .slip ∷ rest) ≡ []
+        → (r .right ≢ r .slipped) × (rest ≡ [])
+    go true parted none =
+        (
+          λ same.
+          subst T
+          (sym parted
+          ∙ sym (ap (λ (l : List ℕ). part (r .right) l (r .one) (r .other)) same)
+          ∙ self-part (r .right) (r .one) (r .other))
+          tt,
+          none
+        )
+    go false parted none = absurd (subst Some none tt)
+
+pub differ : (rs : List Row) → unshown rs ≡ [] → Differ rs
+differ [] e = tt
+differ (r ∷ rs) e = (first r (unshown rs) e .0, differ rs (first r (unshown rs) e .1))

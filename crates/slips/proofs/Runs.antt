@@ -10,7 +10,7 @@ use Rattle.machine.specs.Run.{Result, oneMore, run}
 use Rattle.machine.specs.Cpu.{Cpu}
 use Rattle.machine.specs.Step.{step}
 use Rattle.machine.specs.Machine.{Given, Outcome, given, outcome, proper, turnedAway, cpuIn, storeIn, outcomeOf, opsFor, runOutcome}
-use Rattle.slips.proofs.Row.{Row, row, alike}
+use Rattle.slips.proofs.Row.{Row, row, unshown}
 use Rattle.slips.proofs.Seen.{computes, lone, seen}
 
 -- the machine's run
@@ -58,8 +58,8 @@ placed budget g =
 abbrev cutting : Given → Outcome
 cutting g = turnedAway (given (g .mem) (g .map) (g .regs) (g .pc % 16777216) (g .code) (g .mask))
 
-abbrev runs : String → (ℕ → Given → Outcome) → ℕ → Given → Row
-runs slip slipped budget g = row slip (seen (runOutcome budget g)) (seen (slipped budget g))
+abbrev runs : String → (ℕ → Given → Outcome) → ℕ → Given → ℕ → ℕ → Row
+runs slip slipped budget g one other = row slip (seen (runOutcome budget g)) (seen (slipped budget g)) one other
 
 -- LA 1,5, and then no operation; nothing at all, with this counter
 abbrev five : Given
@@ -72,16 +72,16 @@ nothing pc =
 
 abbrev slips : List Row
 slips =
-    runs "count one too many" (behind counted) 1 five
-    ∷ runs "a refusal counted" (behind refusalCounted) 2 five
-    ∷ runs "the state after one step fewer" (behind oneFewer) 1 five
-    ∷ runs "budget just used up, and a further instruction tried" (behind triesOn) 1 five
-    ∷ runs "place not 0 with 7" (behind placed) 1 five
+    runs "count one too many" (behind counted) 1 five 1 2
+    ∷ runs "a refusal counted" (behind refusalCounted) 2 five 1 2
+    ∷ runs "the state after one step fewer" (behind oneFewer) 1 five 0xa004 0xa000
+    ∷ runs "budget just used up, and a further instruction tried" (behind triesOn) 1 five 7 5
+    ∷ runs "place not 0 with 7" (behind placed) 1 five 0 0xa004
     -- the first instruction is in page 0, which is absent
-    ∷ runs "budget of 65,536 accepted" (door 65536 turnedAway ran) 65536 (nothing 0)
-    ∷ runs "number 6 that alters something" (door 65535 cutting ran) 1 (nothing 0x100a000)
+    ∷ runs "budget of 65,536 accepted" (door 65536 turnedAway ran) 65536 (nothing 0) 6 3
+    ∷ runs "number 6 that alters something" (door 65535 cutting ran) 1 (nothing 0x100a000) 0x100a000 0xa000
     ∷ []
 
-pub runs-differ : alike slips ≡ []
+pub runs-differ : unshown slips ≡ []
 unfolding computes
 runs-differ = refl

@@ -57,7 +57,7 @@ lent first last word regs pc =
 abbrev pub lone : List ℕ → List ℕ → Given
 lone bytes regs = lent bytes [] 0 regs 0xa000
 
--- number, place, count, counter, code, mask; every register; the words of pages 10 and 11; the first and the last 16 bytes of memory
+-- number, place, count, counter, code, mask; every register; the first and the last 16 bytes of memory; the words of pages 10 and 11
 abbrev pub seen : Outcome → List ℕ
 seen o =
     o .reply .number
@@ -66,7 +66,7 @@ seen o =
     ∷ o .reply .pc
     ∷ o .reply .code
     ∷ o .reply .mask
-    ∷ (o .regs ++ take 2 (drop 10 (o .map)) ++ take 16 (o .mem) ++ drop 4080 (o .mem))
+    ∷ (o .regs ++ take 16 (o .mem) ++ drop 4080 (o .mem) ++ take 2 (drop 10 (o .map)))
 
 -- the door, and behind it this answer
 abbrev pub behindDoor : (Given → Result Cpu Framed) → Given → Outcome
@@ -115,9 +115,9 @@ abbrev pub asSs : (SsFields → Cpu → Prog Cpu) → ℕ → Cpu → Prog Cpu
 asSs action h1 c = halfword (ahead c 2) (λ h2. halfword (ahead c 4) (λ h3. action (ssOf h1 h2 h3) c))
 
 -- a row of two steps from the same start: the machine's, and a slipped one
-abbrev pub steps : String → (Given → Outcome) → Given → Row
-steps slip slipped g = row slip (seen (stepOutcome g)) (seen (slipped g))
+abbrev pub steps : String → (Given → Outcome) → Given → ℕ → ℕ → Row
+steps slip slipped g one other = row slip (seen (stepOutcome g)) (seen (slipped g)) one other
 
 -- a row of a slip in one operation: `engine::step` has the promise
-abbrev pub operation : String → ℕ → (ℕ → Cpu → Prog Cpu) → Given → Row
-operation slip op program g = steps slip (stepBy (stepBut op program)) g
+abbrev pub operation : String → ℕ → (ℕ → Cpu → Prog Cpu) → Given → ℕ → ℕ → Row
+operation slip op program g one other = steps slip (stepBy (stepBut op program)) g one other

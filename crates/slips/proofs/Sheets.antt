@@ -12,7 +12,7 @@ use Rattle.reading.specs.Digits.{digitOf, allDigits, valueAfter, valueOf, noLea
 use Rattle.reading.specs.Line as line
 use Rattle.reading.specs.Sheet.{Reading, bad, good, badAt, State, Next, takePage, takeBytes, takeReg, takeStart, takeRun, takeLine, afterLine, readLines, readOnto}
 use Rattle.printing.specs.Ascii.{ascii}
-use Rattle.slips.proofs.Row.{Row, row, alike}
+use Rattle.slips.proofs.Row.{Row, row, unshown}
 
 -- the definitions that this table computes
 unfoldable computes : Unit {0}
@@ -94,37 +94,39 @@ told (bad n mem map regs) = 0 ∷ n ∷ []
 told (good h) = 1 ∷ h .pc ∷ h .budget ∷ []
 
 -- a sheet read onto page words and registers that are zero; no row has a byte for memory
-abbrev sheets : String → (List ℕ → List ℕ → List ℕ → List ℕ → Reading) → List ℕ → Row
-sheets slip slipped sheet =
+abbrev sheets : String → (List ℕ → List ℕ → List ℕ → List ℕ → Reading) → List ℕ → ℕ → ℕ → Row
+sheets slip slipped sheet one other =
     row slip
     (told (readOnto [] (replicate 512 0) (replicate 16 0) sheet))
     (told (slipped [] (replicate 512 0) (replicate 16 0) sheet))
+    one
+    other
 
 abbrev yes-or-no : Bool → List ℕ
 yes-or-no b = pick b 1 0 ∷ []
 
 abbrev bytesTold : line.Line → List ℕ
 bytesTold (line.page n w) = []
-bytesTold (line.bytes a bs) = a ∷ bs
+bytesTold (line.bytes a bs) = 1 ∷ a ∷ bs
 bytesTold (line.reg n v) = []
 bytesTold (line.start pc code mask) = []
 bytesTold (line.run n) = []
-bytesTold line.wrong = []
+bytesTold line.wrong = 0 ∷ []
 
 abbrev slips : List Row
 slips =
     sheets "a page given twice accepted" (readBy 65536 forgetting ended)
-    (ascii "PAGE\t10\t3003\nPAGE\t10\t3004\nSTART\t00A000\t0\t0\nRUN\t1\n")
-    ∷ sheets "RUN before START" (readBy 65536 runEarly ended) (ascii "RUN\t1\nSTART\t00A000\t0\t0\n")
-    ∷ sheets "last line without LF accepted" mended (ascii "START\t00A000\t0\t0\nRUN\t1")
-    ∷ sheets "a missing line counted as the last line" (readBy 65536 taken lastLine) (ascii "START\t00A000\t0\t0\n")
-    ∷ sheets "a sheet of 65,537 bytes read" (readBy 65537 taken ended) (replicate 65537 0)
+    (ascii "PAGE\t10\t3003\nPAGE\t10\t3004\nSTART\t00A000\t0\t0\nRUN\t1\n") 0 1
+    ∷ sheets "RUN before START" (readBy 65536 runEarly ended) (ascii "RUN\t1\nSTART\t00A000\t0\t0\n") 1 2
+    ∷ sheets "last line without LF accepted" mended (ascii "START\t00A000\t0\t0\nRUN\t1") 0 1
+    ∷ sheets "a missing line counted as the last line" (readBy 65536 taken lastLine) (ascii "START\t00A000\t0\t0\n") 2 1
+    ∷ sheets "a sheet of 65,537 bytes read" (readBy 65537 taken ended) (replicate 65537 0) 0 1
     -- reading::digits::decimal, digit; reading::line::bytes_line
-    ∷ row "a leading zero accepted" (yes-or-no (isDecimal 511 (ascii "010"))) (yes-or-no (anyZeros 511 (ascii "010")))
-    ∷ row "lower-case hex accepted" (digitOf 97 ∷ []) (bothCases 97 ∷ [])
-    ∷ row "BYTES reaching past memory" (bytesTold (line.bytesOf (ascii "65535\t0102"))) (bytesTold (pastMemory (ascii "65535\t0102")))
+    ∷ row "a leading zero accepted" (yes-or-no (isDecimal 511 (ascii "010"))) (yes-or-no (anyZeros 511 (ascii "010"))) 0 1
+    ∷ row "lower-case hex accepted" (digitOf 97 ∷ []) (bothCases 97 ∷ []) 16 10
+    ∷ row "BYTES reaching past memory" (bytesTold (line.bytesOf (ascii "65535\t0102"))) (bytesTold (pastMemory (ascii "65535\t0102"))) 0 1
     ∷ []
 
-pub sheets-differ : alike slips ≡ []
+pub sheets-differ : unshown slips ≡ []
 unfolding computes
 sheets-differ = refl

@@ -15,7 +15,7 @@ use Rattle.words.specs.Pick.{pick, either}
 use Rattle.words.specs.Whole.{word, signed, kept}
 use Rattle.words.specs.Codes.{signCode, compareSigned, maskCode}
 use Rattle.words.specs.Combine.{plain, carried, combineOf, shiftedLeft}
-use Rattle.slips.proofs.Row.{Row, row, alike}
+use Rattle.slips.proofs.Row.{Row, row, unshown}
 use Rattle.slips.proofs.Seen.{computes}
 
 -- a logical subtract that adds the complement alone
@@ -57,27 +57,27 @@ abbrev onesFirst : ℕ → ℕ → ℕ
 onesFirst b mask = pick (eqb (bitAnd b mask) mask) 3 (pick (eqb (bitAnd b mask) 0) 0 1)
 
 -- value and code of `words::combine` for two operands, the code before being 0; and a number that is made of two
-abbrev results : String → Alu → (ℕ → ℕ → Res) → ℕ → ℕ → Row
-results slip op slipped a b = row slip (told (combineOf op a b 0)) (told (slipped a b))
+abbrev results : String → Alu → (ℕ → ℕ → Res) → ℕ → ℕ → ℕ → ℕ → Row
+results slip op slipped a b one other = row slip (told (combineOf op a b 0)) (told (slipped a b)) one other
   where
     told : Res → List ℕ
     told r = r .value ∷ r .code ∷ []
 
-abbrev numbers : String → (ℕ → ℕ → ℕ) → (ℕ → ℕ → ℕ) → ℕ → ℕ → Row
-numbers slip right slipped a b = row slip (right a b ∷ []) (slipped a b ∷ [])
+abbrev numbers : String → (ℕ → ℕ → ℕ) → (ℕ → ℕ → ℕ) → ℕ → ℕ → ℕ → ℕ → Row
+numbers slip right slipped a b one other = row slip (right a b ∷ []) (slipped a b ∷ []) one other
 
 abbrev slips : List Row
 slips =
-    results "subtract logical without its carry" SubtractLogical withoutOne 5 3
-    ∷ results "overflow of a signed add noticed one value late" Add oneLate 0x7fffffff 1
-    ∷ results "overflow of a signed subtract by the manual's garbled test" Subtract garbled 5 3
-    ∷ results "LCR of 80000000 without overflow" Complement bySign 0 0x80000000
-    ∷ results "a compare signed where it is logical" CompareLogical signedCompare 0x80000000 1
+    results "subtract logical without its carry" SubtractLogical withoutOne 5 3 2 1
+    ∷ results "overflow of a signed add noticed one value late" Add oneLate 0x7fffffff 1 3 2
+    ∷ results "overflow of a signed subtract by the manual's garbled test" Subtract garbled 5 3 2 3
+    ∷ results "LCR of 80000000 without overflow" Complement bySign 0 0x80000000 3 1
+    ∷ results "a compare signed where it is logical" CompareLogical signedCompare 0x80000000 1 2 1
     -- words::shift_left and mask_code
-    ∷ numbers "shift amounts of five bits" shiftedLeft fiveBits 1 32
-    ∷ numbers "TM with mask 0 as code 3" maskCode onesFirst 0x5a 0
+    ∷ numbers "shift amounts of five bits" shiftedLeft fiveBits 1 32 0 1
+    ∷ numbers "TM with mask 0 as code 3" maskCode onesFirst 0x5a 0 0 3
     ∷ []
 
-pub words-differ : alike slips ≡ []
+pub words-differ : unshown slips ≡ []
 unfolding computes
 words-differ = refl
