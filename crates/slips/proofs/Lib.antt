@@ -1,14 +1,4 @@
-pub mod Row
-pub mod Seen
-pub mod Words
-pub mod Pages
-pub mod Moves
-pub mod Refusals
-pub mod Operations
-pub mod Branches
-pub mod Order
-pub mod Runs
-pub mod Sheets
-pub mod Answers
-pub mod Plain
+pub mod Argument
+pub mod Shown
+pub mod Premises
 pub mod Weak

@@ -12,7 +12,8 @@ use Rattle.machine.specs.Machine.{Given, cpuIn, storeIn, runOutcome}
 use Rattle.demand.specs.Plain.{Plain, plainRun, shown}
 use Rattle.demand.specs.Demand.{SamePages, Agrees}
 use Rattle.demand.proofs.Third.{shown-same}
-use Rattle.slips.proofs.Plain.{computes, loaded, noPages, no-word, not-usable}
+use Rattle.slips.specs.Plain.{computes, loaded, noPages}
+use Rattle.slips.proofs.Premises.{no-word, not-usable}
 
 -- `Inside` and `Apart` (demand/specs/Premise), of writable pages in place of open ones
 pub record WeakPremise (n : ℕ) (map : List ℕ) : Type 0 where

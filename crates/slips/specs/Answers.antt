@@ -1,7 +1,6 @@
 -- Slips in printing the answer: of functions of `printing::lines`, of `printing::digits`, and of `sheet::answer`.
 use Prim.Native.Nat.{ℕ, _+_, _%_}
 use Prim.Native.String.{String}
-use mathlib.Core.Path.{_≡_, refl}
 use mathlib.Core.List.{List, [], _∷_, _++_}
 use lib.Dec.{eqb, ltb}
 use lib.ListN.{length}
@@ -9,10 +8,10 @@ use Rattle.words.specs.Pick.{pick}
 use Rattle.printing.specs.Digits.{digit, digitsOf, hexOf, bare, decimalOf}
 use Rattle.printing.specs.Lines.{STOP, LF, field, stopLine, regLine, startLine, pageLine}
 use Rattle.printing.specs.Answer.{regPart, pagePart, regsFrom, pagesFrom, answerText}
-use Rattle.slips.proofs.Row.{Row, row, unshown}
+use Rattle.slips.specs.Row.{Row, row}
 
 -- the definitions that this table computes
-unfoldable computes : Unit {0}
+unfoldable pub computes : Unit {0}
 unfolding digit digitsOf bare decimalOf stopLine regLine startLine pageLine regPart pagePart regsFrom pagesFrom answerText
 computes = tt
 
@@ -49,7 +48,7 @@ noneAltered before after = answerText 7 0 1 0xa004 0 0 [] after after
 abbrev texts : String → List ℕ → List ℕ → ℕ → ℕ → Row
 texts slip right slipped one other = row slip (length right ∷ right) (length slipped ∷ slipped) one other
 
-abbrev slips : List Row
+abbrev pub slips : List Row
 slips =
     -- printing::lines::page_part and reg_part
     texts "page word from before" (pagePart 10 0x3003 0x7003) (wordBefore 10 0x3003 0x7003) 55 51
@@ -62,7 +61,3 @@ slips =
     -- sheet::answer
     ∷ texts "no page counts as altered" (answerText 7 0 1 0xa004 0 0 [] (0x3003 ∷ []) (0x7003 ∷ [])) (noneAltered (0x3003 ∷ []) (0x7003 ∷ [])) 45 33
     ∷ []
-
-pub answers-differ : unshown slips ≡ []
-unfolding computes
-answers-differ = refl

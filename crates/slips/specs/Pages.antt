@@ -1,7 +1,6 @@
 -- Slips in the look-up of a byte and in the marks: of `pages::look_up`, `note_written` and `next_of`.
 use Prim.Native.Nat.{ℕ, _+_, _*_, _%_}
 use Prim.Native.String.{String}
-use mathlib.Core.Path.{_≡_, refl}
 use mathlib.Core.List.{List, [], _∷_}
 use lib.Dec.{eqb, leb, ltb}
 use lib.ListN.{replicate}
@@ -15,8 +14,7 @@ use Rattle.pages.specs.declared.Look.the-variants.{At, Refused}
 use Rattle.pages.specs.Word.{bitH, bitsX, frame, pageOf, dispOf, real, wordOf, written}
 use Rattle.pages.specs.Tests.{test, table, firstBad, numberOf, tests}
 use Rattle.pages.specs.Look.{within, lookOf}
-use Rattle.slips.proofs.Row.{Row, row, unshown}
-use Rattle.slips.proofs.Seen.{computes}
+use Rattle.slips.specs.Row.{Row, row}
 
 -- a look-up in a map and a memory of n bytes
 abbrev LookUp : Type 0
@@ -69,7 +67,7 @@ looked slip slipped page word a one other =
 abbrev clearing : ℕ → ℕ
 clearing w = 32768 + w % 16384
 
-abbrev slips : List Row
+abbrev pub slips : List Row
 slips =
     looked "page 10 found as 110" (finding byEnding) 110 0x3003 0xa000 3 0
     ∷ looked "9 bits of the page's number cut to 6" (finding bySixBits) 10 0x3003 0x4a000 3 0
@@ -78,7 +76,3 @@ slips =
     ∷ looked "one byte past memory allowed" oneMore 10 0x3010 0xa000 1 0
     ∷ row "a W mark that clears G" (written 0x7003 ∷ []) (clearing 0x7003 ∷ []) 0xf003 0xb003
     ∷ []
-
-pub pages-differ : unshown slips ≡ []
-unfolding computes
-pages-differ = refl

@@ -1,7 +1,6 @@
 -- Slips in a run, its count and the door. All are of `engine::run`.
 use Prim.Native.Nat.{ℕ, _+_, _-_, _%_}
 use Prim.Native.String.{String}
-use mathlib.Core.Path.{_≡_, refl}
 use mathlib.Core.List.{List, [], _∷_}
 use lib.Dec.{eqb, leb}
 use Rattle.words.specs.Pick.{pick, both}
@@ -10,8 +9,8 @@ use Rattle.machine.specs.Run.{Result, oneMore, run}
 use Rattle.machine.specs.Cpu.{Cpu}
 use Rattle.machine.specs.Step.{step}
 use Rattle.machine.specs.Machine.{Given, Outcome, given, outcome, proper, turnedAway, cpuIn, storeIn, outcomeOf, opsFor, runOutcome}
-use Rattle.slips.proofs.Row.{Row, row, unshown}
-use Rattle.slips.proofs.Seen.{computes, lone, seen}
+use Rattle.slips.specs.Row.{Row, row}
+use Rattle.slips.specs.Seen.{lone, seen}
 
 -- the machine's run
 abbrev ran : ℕ → Given → Result Cpu Framed
@@ -70,7 +69,7 @@ nothing pc =
     let g = lone [] [] in
     given (g .mem) (g .map) (g .regs) pc 0 0
 
-abbrev slips : List Row
+abbrev pub slips : List Row
 slips =
     runs "count one too many" (behind counted) 1 five 1 2
     ∷ runs "a refusal counted" (behind refusalCounted) 2 five 1 2
@@ -81,7 +80,3 @@ slips =
     ∷ runs "budget of 65,536 accepted" (door 65536 turnedAway ran) 65536 (nothing 0) 6 3
     ∷ runs "number 6 that alters something" (door 65535 cutting ran) 1 (nothing 0x100a000) 0x100a000 0xa000
     ∷ []
-
-pub runs-differ : unshown slips ≡ []
-unfolding computes
-runs-differ = refl

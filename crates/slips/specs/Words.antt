@@ -1,7 +1,6 @@
 -- Slips in the arithmetic of words. Each row is of a function of `words`.
 use Prim.Native.Nat.{ℕ, _+_, _-_, _*_, _/_, _%_, _^_}
 use Prim.Native.String.{String}
-use mathlib.Core.Path.{_≡_, refl}
 use mathlib.Core.Bool.{Bool, not}
 use mathlib.Core.List.{List, [], _∷_}
 use lib.Dec.{eqb}
@@ -15,8 +14,7 @@ use Rattle.words.specs.Pick.{pick, either}
 use Rattle.words.specs.Whole.{word, signed, kept}
 use Rattle.words.specs.Codes.{signCode, compareSigned, maskCode}
 use Rattle.words.specs.Combine.{plain, carried, combineOf, shiftedLeft}
-use Rattle.slips.proofs.Row.{Row, row, unshown}
-use Rattle.slips.proofs.Seen.{computes}
+use Rattle.slips.specs.Row.{Row, row}
 
 -- a logical subtract that adds the complement alone
 abbrev withoutOne : ℕ → ℕ → Res
@@ -66,7 +64,7 @@ results slip op slipped a b one other = row slip (told (combineOf op a b 0)) (to
 abbrev numbers : String → (ℕ → ℕ → ℕ) → (ℕ → ℕ → ℕ) → ℕ → ℕ → ℕ → ℕ → Row
 numbers slip right slipped a b one other = row slip (right a b ∷ []) (slipped a b ∷ []) one other
 
-abbrev slips : List Row
+abbrev pub slips : List Row
 slips =
     results "subtract logical without its carry" SubtractLogical withoutOne 5 3 2 1
     ∷ results "overflow of a signed add noticed one value late" Add oneLate 0x7fffffff 1 3 2
@@ -77,7 +75,3 @@ slips =
     ∷ numbers "shift amounts of five bits" shiftedLeft fiveBits 1 32 0 1
     ∷ numbers "TM with mask 0 as code 3" maskCode onesFirst 0x5a 0 0 3
     ∷ []
-
-pub words-differ : unshown slips ≡ []
-unfolding computes
-words-differ = refl

@@ -1,6 +1,5 @@
 -- Slips in moves and compares of fields: MVC (D2) and CLC (D5). All but the last are of `engine::step`.
 use Prim.Native.Nat.{ℕ, zero, suc, _+_}
-use mathlib.Core.Path.{_≡_, refl}
 use mathlib.Core.List.{List, [], _∷_, _++_}
 use lib.Dec.{eqb}
 use lib.ListN.{getD, set, replicate}
@@ -18,8 +17,8 @@ use Rattle.machine.specs.Fields.{looks, gets, puts, moves, compares}
 use Rattle.machine.specs.Cpu.{Cpu, withCode, onward}
 use Rattle.machine.specs.Ss.{firstAddress, secondAddress}
 use Rattle.machine.specs.Machine.{Given}
-use Rattle.slips.proofs.Row.{Row, row, unshown}
-use Rattle.slips.proofs.Seen.{computes, lent, stepLeaving, stepBut, asSs, steps, operation}
+use Rattle.slips.specs.Row.{Row, row}
+use Rattle.slips.specs.Seen.{lent, stepLeaving, stepBut, asSs, steps, operation}
 
 -- each byte looked up just before it is moved
 abbrev byteByByte : ℕ → ℕ → ℕ → Prog Cpu → Prog Cpu
@@ -108,7 +107,7 @@ crossing instruction word =
     (0 ∷ 0 ∷ 0xaffe ∷ 0xa008 ∷ 0xb000 ∷ [])
     0xa000
 
-abbrev slips : List Row
+abbrev pub slips : List Row
 slips =
     -- MVC 0(4,2),0(3), with page 11 absent
     steps "the first page of a move stored, then the second found absent" (stepLeaving allSoFar (stepBut 0xd2 (asSs moveAsFound)))
@@ -129,7 +128,3 @@ slips =
     ∷ row "MVC going on into the next frame in place of the next page" (firsts (worked folded 0xafff 0xaffc 2))
     (firsts (alongFrames folded 0xafff 0xaffc 2)) 2 0
     ∷ []
-
-pub moves-differ : unshown slips ≡ []
-unfolding computes
-moves-differ = refl

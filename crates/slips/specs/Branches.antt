@@ -1,6 +1,5 @@
 -- Slips in branches and in the link. All are of `engine::step`.
 use Prim.Native.Nat.{ℕ, _+_, _*_, _/_, _%_, _^_}
-use mathlib.Core.Path.{_≡_, refl}
 use mathlib.Core.Bool.{true, not}
 use mathlib.Core.List.{List, [], _∷_}
 use lib.Dec.{eqb, ltb}
@@ -15,8 +14,8 @@ use Rattle.machine.specs.Cpu.{Cpu, reg, withReg, withPc, onward, ahead, target}
 use Rattle.machine.specs.Branches.{going, link, branch}
 use Rattle.machine.specs.Rx.{rxAddress}
 use Rattle.machine.specs.Rs.{rsAddress, indexSum, comparand}
-use Rattle.slips.proofs.Row.{Row, unshown}
-use Rattle.slips.proofs.Seen.{computes, lone, operation, asRr, asRx, asRs}
+use Rattle.slips.specs.Row.{Row}
+use Rattle.slips.specs.Seen.{lone, operation, asRr, asRx, asRs}
 
 -- BALR that stores the link before it reads the target
 abbrev linkFirst : RrFields → Cpu → Prog Cpu
@@ -49,7 +48,7 @@ abbrev logicalCompare : RsFields → Cpu → Prog Cpu
 logicalCompare f c =
     done (going (not (ltb (comparand f c) (indexSum f c))) (rsAddress f c) (withReg (onward c 4) (f .r1) (indexSum f c)))
 
-abbrev slips : List Row
+abbrev pub slips : List Row
 slips =
     -- BALR 1,1
     operation "BALR storing the link before reading the target" 0x05 (asRr linkFirst) (lone (0x05 ∷ 0x11 ∷ []) (0 ∷ 0xc000 ∷ [])) 0xc000 0xa002
@@ -66,7 +65,3 @@ slips =
     ∷ operation "BXLE with a logical compare" 0x87 (asRs logicalCompare)
     (lone (0x87 ∷ 0x34 ∷ 0x20 ∷ 0 ∷ []) (0 ∷ 0 ∷ 0xc000 ∷ 0xffffffff ∷ 0 ∷ 1 ∷ [])) 0xc000 0xa004
     ∷ []
-
-pub branches-differ : unshown slips ≡ []
-unfolding computes
-branches-differ = refl

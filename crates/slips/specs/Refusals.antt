@@ -1,6 +1,5 @@
 -- Slips of a machine that refuses and leaves a trace, or completes and leaves the wrong marks. All are of `engine::step`.
 use Prim.Native.Nat.{ℕ}
-use mathlib.Core.Path.{_≡_, refl}
 use mathlib.Core.List.{List, [], _∷_, _++_}
 use lib.ListN.{take, drop, replicate}
 use Rattle.words.specs.Pick.{pick}
@@ -15,8 +14,8 @@ use Rattle.machine.specs.Fields.{looks}
 use Rattle.machine.specs.Cpu.{Cpu, withPc, onward}
 use Rattle.machine.specs.Step.{step}
 use Rattle.machine.specs.Machine.{Given, Outcome, cpuIn, storeIn}
-use Rattle.slips.proofs.Row.{Row, row, unshown}
-use Rattle.slips.proofs.Seen.{computes, lent, behindDoor, stepLeaving, steps}
+use Rattle.slips.specs.Row.{Row, row}
+use Rattle.slips.specs.Seen.{lent, behindDoor, stepLeaving, steps}
 
 -- W set by a store that is refused
 abbrev writtenAnyway : Framed → Framed → Access → ℕ → Framed
@@ -94,7 +93,7 @@ onPage11 instruction word = lent (instruction ++ 0xff ∷ []) [] word (0 ∷ 0x1
 abbrev atTheEnd : ℕ → Given
 atTheEnd word = lent (0 ∷ 5 ∷ []) (replicate 14 0 ++ 0x41 ∷ 0x10 ∷ []) word [] 0xaffe
 
-abbrev slips : List Row
+abbrev pub slips : List Row
 slips =
     -- ST 1,4(2) to a page with E set, and to one that is absent
     steps "W set by a store that was refused" (stepLeaving writtenAnyway step) (onPage11 (0x50 ∷ 0x10 ∷ 0x20 ∷ 4 ∷ []) 0x3800) 0x3800 0xb800
@@ -112,7 +111,3 @@ slips =
     ∷ row "G on the first page of an operand only" (marks (lookedUp twoPages 0xafff 2))
     (marks (firstPage twoPages 0xafff 2)) 0x7000 0x3000
     ∷ []
-
-pub refusals-differ : unshown slips ≡ []
-unfolding computes
-refusals-differ = refl

@@ -1,26 +1,21 @@
 -- Slips in demand 3: a plain machine that finds pages by part of their number, or leaves marks out, does not agree with the machine, though
 -- the premise holds.
-use Prim.Native.Nat.{ℕ, zero, suc, _+_, _*_, _≤_, _%_}
+use Prim.Native.Nat.{ℕ, _+_, _*_, _%_}
 use Prim.Native.String.{String}
-use native.Mathlib.Omega.{arith}
-use native.Mathlib.Decide.{ℕ-discrete}
-use mathlib.Core.Path.{_≡_, refl, sym, _∙_, subst}
-use mathlib.Core.Logic.{_≢_}
 use mathlib.Core.List.{List, [], _∷_}
 use lib.Dec.{eqb}
 use lib.ListN.{getD, set, replicate}
-use lib.Seq.{sets, getD-set-other}
+use lib.Seq.{sets}
 use Rattle.words.specs.Pick.{pick}
-use Rattle.pages.specs.Word.{bitU, pageOf, dispOf, base, size, wordOf, Open}
+use Rattle.pages.specs.Word.{pageOf, dispOf, wordOf}
 use Rattle.machine.specs.Prog.{Ops}
 use Rattle.machine.specs.Run.{Result, run}
 use Rattle.machine.specs.Cpu.{Cpu}
 use Rattle.machine.specs.Step.{step}
 use Rattle.machine.specs.Machine.{Given, Outcome, given, cpuIn, storeIn, runOutcome}
 use Rattle.demand.specs.Plain.{Plain, plainOf, bare, lookPlain, notePlain, stored, readPlain, writePlain, plain, plainRun, shown}
-use Rattle.demand.specs.Premise.{Premise}
-use Rattle.slips.proofs.Row.{Row, row, unshown}
-use Rattle.slips.proofs.Seen as machines
+use Rattle.slips.specs.Row.{Row, row}
+use Rattle.slips.specs.Seen as machines
 
 -- the definitions that are computed here
 unfoldable pub computes : Unit {0}
@@ -104,10 +99,10 @@ abbrev loadFive : List ℕ
 loadFive = 0x41 ∷ 0x10 ∷ 0 ∷ 5 ∷ []
 
 -- one open page, this one, on the frame
-abbrev lone : ℕ → List ℕ
+abbrev pub lone : ℕ → List ℕ
 lone p = set noPages p 0x3000
 
-abbrev slips : List Row
+abbrev pub slips : List Row
 slips =
     plains "plain machine, page 10 found as 110" (taking byEnding) 1 (loaded loadFive (lone 110) 0xa000) 3 7
     ∷ plains "plain machine, 9 bits of the page's number cut to 6" (taking bySixBits) 1 (loaded loadFive (lone 10) 0x4a000) 3 7
@@ -115,39 +110,3 @@ slips =
     -- MVI 8(2),7
     ∷ plains "plain machine without W" withoutW 1 (loaded (0x92 ∷ 7 ∷ 0x20 ∷ 8 ∷ []) (lone 11) 0xb000) 0xf000 0x7000
     ∷ []
-
-pub plains-differ : unshown slips ≡ []
-unfolding computes
-plains-differ = refl
-
--- The premise holds in each of these rows: only one page is open, and it lies on the one frame.
-pub no-word : (n r : ℕ) → _≡_ {A = ℕ} (getD (replicate n 0) r 0) 0
-no-word zero r = refl
-no-word (suc n) zero = refl
-no-word (suc n) (suc r) = no-word n r
-
-pub not-usable : (w : ℕ) → w ≡ 0 → bitU w ≢ 1
-unfolding bitU
-not-usable w e u = omega (arith, e, u)
-
-only : (p w r : ℕ) → bitU (wordOf (set noPages p w) r) ≡ 1 → r ≡ p
-unfolding wordOf
-only p w r u = go (ℕ-discrete r p)
-  where
-    go : Dec (r ≡ p) → r ≡ p
-    go (yes e) = e
-    go (no k) = absurd (not-usable (wordOf (set noPages p w) r) (getD-set-other noPages p r w 0 k ∙ no-word 512 r) u)
-
-fits : base 0x3000 + size 0x3000 ≤ 4096
-unfolding computes
-fits = omega arith
-
-pub premise-holds : (p : ℕ) → wordOf (lone p) p ≡ 0x3000 → Premise 4096 (lone p)
-premise-holds p e =
-    record {
-      inside =
-          λ r o.
-          subst (λ (i : ℕ). base (wordOf (lone p) i) + size (wordOf (lone p) i) ≤ 4096) (sym (only p 0x3000 r (o .u)))
-          (subst (λ (w : ℕ). base w + size w ≤ 4096) (sym e) fits);
-      apart = λ r q d k o o′ l l′ same. only p 0x3000 r (o .u) ∙ sym (only p 0x3000 q (o′ .u));
-    }

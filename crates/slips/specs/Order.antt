@@ -1,7 +1,6 @@
 -- Slips in the order of tests, in the fetch, and in the instruction code. All but the last are of `engine::step`.
 use Prim.Native.Nat.{ℕ, _-_, _%_}
 use Prim.Native.String.{String}
-use mathlib.Core.Path.{_≡_, refl}
 use mathlib.Core.List.{List, [], _∷_, _++_}
 use lib.Dec.{eqb, ltb}
 use lib.ListN.{replicate}
@@ -24,8 +23,8 @@ use Rattle.machine.specs.Rx.{rxAddress, rx}
 use Rattle.machine.specs.Ss.{ss}
 use Rattle.machine.specs.Step.{known}
 use Rattle.machine.specs.Machine.{Given}
-use Rattle.slips.proofs.Row.{Row, row, unshown}
-use Rattle.slips.proofs.Seen.{computes, lent, lone, stepBy, asRx, steps, operation}
+use Rattle.slips.specs.Row.{Row, row}
+use Rattle.slips.specs.Seen.{lent, lone, stepBy, asRx, steps, operation}
 
 -- the first halfword looked up before the odd test
 abbrev oddSecond : Cpu → Prog Cpu
@@ -77,7 +76,7 @@ told f = f .l ∷ f .b1 ∷ f .d1 ∷ f .b2 ∷ f .d2 ∷ []
 abbrev ending : List ℕ → ℕ → List ℕ → Given
 ending bytes n regs = lent [] (replicate (16 - n) 0 ++ bytes) 0 regs (0xb000 - n)
 
-abbrev slips : List Row
+abbrev pub slips : List Row
 slips =
     -- at 00B001, with page 11 absent
     steps "looked up before the odd test" (stepBy oddSecond) (lent [] [] 0 [] 0xb001) 2 3
@@ -94,7 +93,3 @@ slips =
     -- code::split_ss
     ∷ row "the SS length byte of four bits" (told (ssOf 0xd2ff 0x2000 0x3000)) (told (shortLength 0xd2ff 0x2000 0x3000)) 255 15
     ∷ []
-
-pub order-differs : unshown slips ≡ []
-unfolding computes
-order-differs = refl

@@ -1,7 +1,6 @@
 -- Slips in reading a sheet: of `reading::read_sheet`, and of what it stands on.
 use Prim.Native.Nat.{ℕ, zero, suc, _+_, _-_}
 use Prim.Native.String.{String}
-use mathlib.Core.Path.{_≡_, refl}
 use mathlib.Core.Bool.{Bool}
 use mathlib.Core.List.{List, [], _∷_, _++_}
 use lib.Dec.{eqb, leb, ltb}
@@ -12,10 +11,10 @@ use Rattle.reading.specs.Digits.{digitOf, allDigits, valueAfter, valueOf, noLea
 use Rattle.reading.specs.Line as line
 use Rattle.reading.specs.Sheet.{Reading, bad, good, badAt, State, Next, takePage, takeBytes, takeReg, takeStart, takeRun, takeLine, afterLine, readLines, readOnto}
 use Rattle.printing.specs.Ascii.{ascii}
-use Rattle.slips.proofs.Row.{Row, row, unshown}
+use Rattle.slips.specs.Row.{Row, row}
 
 -- the definitions that this table computes
-unfoldable computes : Unit {0}
+unfoldable pub computes : Unit {0}
 unfolding span before after count digitOf allDigits valueAfter noLeadingZero isDecimal isHex isBytes pairsOf line.same line.entryOf
     line.bytesOf line.startOf line.runOf line.lineOf takePage takeBytes takeReg takeStart takeRun readLines readOnto
 computes = tt
@@ -113,7 +112,7 @@ bytesTold (line.start pc code mask) = []
 bytesTold (line.run n) = []
 bytesTold line.wrong = 0 ∷ []
 
-abbrev slips : List Row
+abbrev pub slips : List Row
 slips =
     sheets "a page given twice accepted" (readBy 65536 forgetting ended)
     (ascii "PAGE\t10\t3003\nPAGE\t10\t3004\nSTART\t00A000\t0\t0\nRUN\t1\n") 0 1
@@ -126,7 +125,3 @@ slips =
     ∷ row "lower-case hex accepted" (digitOf 97 ∷ []) (bothCases 97 ∷ []) 16 10
     ∷ row "BYTES reaching past memory" (bytesTold (line.bytesOf (ascii "65535\t0102"))) (bytesTold (pastMemory (ascii "65535\t0102"))) 0 1
     ∷ []
-
-pub sheets-differ : unshown slips ≡ []
-unfolding computes
-sheets-differ = refl

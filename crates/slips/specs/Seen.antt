@@ -35,7 +35,7 @@ use Rattle.machine.specs.Si.{si}
 use Rattle.machine.specs.Ss.{ss}
 use Rattle.machine.specs.Step.{act, known, step}
 use Rattle.machine.specs.Machine.{Given, Outcome, given, proper, turnedAway, cpuIn, storeIn, outcomeOf, stepOutcome, runOutcome}
-use Rattle.slips.proofs.Row.{Row, row}
+use Rattle.slips.specs.Row.{Row, row}
 
 -- the definitions that the tables of machines compute
 unfoldable pub computes : Unit {0}
