@@ -37,16 +37,15 @@ first r rest e = go (part (r .right) (r .slipped) (r .one) (r .other)) refl e
   where
     go : (b : Bool) → part (r .right) (r .slipped) (r .one) (r .other) ≡ b → pick b rest (r .slip ∷ rest) ≡ []
         → (r .right ≢ r .slipped) × (rest ≡ [])
-    go true parted none =
-        (
-          λ same.
+    go true parted none = (
+      λ same.
           subst T
           (sym parted
           ∙ sym (ap (λ (l : List ℕ). part (r .right) l (r .one) (r .other)) same)
           ∙ self-part (r .right) (r .one) (r .other))
           tt,
-          none
-        )
+      none,
+    )
     go false parted none = absurd (subst Some none tt)
 
 pub differ : (rs : List Row) → unshown rs ≡ [] → Differ rs

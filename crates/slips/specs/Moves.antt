@@ -46,6 +46,12 @@ secondFirst f c =
     (looks Store (firstAddress f c) (suc (f .l))
     (moves (firstAddress f c) (secondAddress f c) (suc (f .l)) (done (onward c 6))))
 
+-- the first byte of each field alone looked up
+abbrev firstBytes : SsFields → Cpu → Prog Cpu
+firstBytes f c =
+    look Store (firstAddress f c)
+    (look Load (secondAddress f c) (moves (firstAddress f c) (secondAddress f c) (suc (f .l)) (done (onward c 6))))
+
 -- every byte taken before any is stored
 abbrev asBlock : SsFields → Cpu → Prog Cpu
 asBlock f c =
@@ -112,6 +118,7 @@ slips =
     -- MVC 0(4,2),0(3), with page 11 absent
     steps "the first page of a move stored, then the second found absent" (stepLeaving allSoFar (stepBut 0xd2 (asSs moveAsFound)))
     (crossing (0xd2 ∷ 3 ∷ 0x20 ∷ 0 ∷ 0x30 ∷ 0 ∷ []) 0) 0x55 0x11
+    ∷ operation "only the first byte of a field looked up" 0xd2 (asSs firstBytes) (crossing (0xd2 ∷ 3 ∷ 0x20 ∷ 0 ∷ 0x30 ∷ 0 ∷ []) 0) 3 0
     -- MVC 0(4,3),0(4), with E set on page 11
     ∷ operation "E tested on the field that is only read" 0xd2 (asSs bothStored)
     (crossing (0xd2 ∷ 3 ∷ 0x30 ∷ 0 ∷ 0x40 ∷ 0 ∷ []) 0x3800) 0 4

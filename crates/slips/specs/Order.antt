@@ -9,7 +9,7 @@ use Rattle.words.specs.Pick.{pick}
 use Rattle.pages.specs.declared.Access.{Access}
 use Rattle.pages.specs.declared.Access.the-variants as access
 use Rattle.code.specs.declared.Operand.the-variants.{WordWith}
-use Rattle.code.specs.declared.RxAction.the-variants.{Taking}
+use Rattle.code.specs.declared.RxAction.the-variants.{Taking, LoadAddress}
 use Rattle.code.specs.declared.SsAction.the-variants.{MoveField}
 use Rattle.code.specs.declared.Found.{Found}
 use Rattle.code.specs.declared.RxFields.{RxFields}
@@ -31,13 +31,16 @@ abbrev oddSecond : Cpu → Prog Cpu
 oddSecond c =
     halfword (c .pc) (λ h1. pick (eqb (c .pc % 2) 1) (fail 2 (c .pc)) (known (actionOf (opOf h1)) h1 c))
 
--- the second halfword of an instruction that has one looked up before the operation is tested
+-- the remaining bytes, as many as the top two bits say, looked up before the operation is tested
+abbrev remaining : ℕ → ℕ
+remaining op = pick (ltb op 64) 0 (pick (ltb op 192) 2 4)
+
 abbrev operationLast : Cpu → Prog Cpu
 operationLast c =
     pick (eqb (c .pc % 2) 1)
     (fail 2 (c .pc))
     (halfword (c .pc)
-    (λ h1. pick (ltb (opOf h1) 64) (known (actionOf (opOf h1)) h1 c) (looks access.Fetch (ahead c 2) 2 (known (actionOf (opOf h1)) h1 c))))
+    (λ h1. looks access.Fetch (ahead c 2) (remaining (opOf h1)) (known (actionOf (opOf h1)) h1 c)))
 
 -- L whose boundary is tested before its second halfword is looked up
 abbrev boundaryEarly : ℕ → Cpu → Prog Cpu
@@ -50,6 +53,10 @@ abbrev boundaryLate : RxFields → Cpu → Prog Cpu
 boundaryLate f c =
     looks access.Load (rxAddress f c) 4
     (aligned 4 (rxAddress f c) (gets (rxAddress f c) 4 0 (λ v. done (withReg (onward c 4) (f .r1) v))))
+
+-- LA whose second halfword is not looked up
+abbrev secondUnseen : ℕ → Cpu → Prog Cpu
+secondUnseen h1 c = gets (ahead c 2) 2 0 (λ h2. rx LoadAddress (rxOf h1 h2) c)
 
 -- MVC whose third halfword is not looked up
 abbrev thirdUnseen : ℕ → Cpu → Prog Cpu
@@ -86,7 +93,8 @@ slips =
     ∷ operation "boundary tested before the fetch is whole" 0x58 boundaryEarly (ending (0x58 ∷ 0x12 ∷ []) 2 (0 ∷ 0 ∷ 1 ∷ [])) 3 2
     -- L 1,1(2), with page 11 absent
     ∷ operation "boundary tested after the look-up" 0x58 (asRx boundaryLate) (lone (0x58 ∷ 0x12 ∷ 0 ∷ 1 ∷ []) (0 ∷ 0 ∷ 0xb000 ∷ [])) 2 3
-    -- MVC at 00AFFC
+    -- LA at 00AFFE; MVC at 00AFFC
+    ∷ operation "second halfword not looked up" 0x41 secondUnseen (ending (0x41 ∷ 0x10 ∷ []) 2 []) 3 0
     ∷ operation "third halfword not looked up" 0xd2 thirdUnseen (ending (0xd2 ∷ 0 ∷ 0x20 ∷ 0 ∷ []) 4 (0 ∷ 0 ∷ 0xa000 ∷ [])) 0xb000 0
     -- SLL 1,1
     ∷ steps "SLL and SRL swapped" (stepBy (stepFinding swapped)) (lone (0x89 ∷ 0x10 ∷ 0 ∷ 1 ∷ []) (0 ∷ 6 ∷ [])) 12 3

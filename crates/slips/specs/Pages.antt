@@ -1,19 +1,21 @@
--- Slips in the look-up of a byte and in the marks: of `pages::look_up`, `note_written` and `next_of`.
+-- Slips in the look-up of a byte, in the marks, and in the quick way: of `pages::look_up`, `note_written` and `is_plain`.
 use Prim.Native.Nat.{ℕ, _+_, _*_, _%_}
 use Prim.Native.String.{String}
+use mathlib.Core.Bool.{Bool}
 use mathlib.Core.List.{List, [], _∷_}
 use lib.Dec.{eqb, leb, ltb}
 use lib.ListN.{replicate}
 use lib.Seq.{sets}
-use Rattle.words.specs.Pick.{pick}
+use Rattle.words.specs.Pick.{pick, both}
 use Rattle.pages.specs.declared.Access.{Access}
-use Rattle.pages.specs.declared.Access.the-variants.{Load}
+use Rattle.pages.specs.declared.Access.the-variants.{Load, Store}
 use Rattle.pages.specs.declared.Cause.the-variants.{Addressing, PagingError}
 use Rattle.pages.specs.declared.Look.{Look}
 use Rattle.pages.specs.declared.Look.the-variants.{At, Refused}
 use Rattle.pages.specs.Word.{bitH, bitsX, frame, pageOf, dispOf, real, wordOf, written}
 use Rattle.pages.specs.Tests.{test, table, firstBad, numberOf, tests}
 use Rattle.pages.specs.Look.{within, lookOf}
+use Rattle.pages.specs.Plain.{realOf, ordinary, plain}
 use Rattle.slips.specs.Row.{Row, row}
 
 -- a look-up in a map and a memory of n bytes
@@ -63,6 +65,25 @@ looked slip slipped page word a one other =
     map : List ℕ
     map = sets (replicate 512 0) page (word ∷ [])
 
+-- a field taken for plain that has one byte more than its page has left
+abbrev nextPage : List ℕ → ℕ → Access → ℕ → ℕ → Bool
+nextPage map n acc a len =
+    both (ltb 0 len)
+    (both (ltb a 2097152)
+    (both (leb (a % 4096 + len) 4097) (both (ordinary (wordOf map (pageOf a)) acc) (leb (realOf map a + len) n))))
+
+-- a field taken for plain that is not to be stored to
+abbrev asIfLoaded : List ℕ → ℕ → Access → ℕ → ℕ → Bool
+asIfLoaded map n acc a len = plain map n Load a len
+
+-- whether a field of len bytes from a on, to be stored to, is plain in two frames of memory, under this one page word
+abbrev quick : String → (List ℕ → ℕ → Access → ℕ → ℕ → Bool) → ℕ → ℕ → ℕ → ℕ → ℕ → ℕ → Row
+quick slip slipped page word a len one other =
+    row slip (pick (plain map 8192 Store a len) 1 0 ∷ []) (pick (slipped map 8192 Store a len) 1 0 ∷ []) one other
+  where
+    map : List ℕ
+    map = sets (replicate 512 0) page (word ∷ [])
+
 -- a W mark that clears G
 abbrev clearing : ℕ → ℕ
 clearing w = 32768 + w % 16384
@@ -75,4 +96,7 @@ slips =
     ∷ looked "X tested before U" xFirst 10 0x1043 0xa000 3 4
     ∷ looked "one byte past memory allowed" oneMore 10 0x3010 0xa000 1 0
     ∷ row "a W mark that clears G" (written 0x7003 ∷ []) (clearing 0x7003 ∷ []) 0xf003 0xb003
+    -- pages::is_plain: two bytes from 00AFFF on, and from 00A000 on with E set
+    ∷ quick "a field taken for plain whose last byte has another page" nextPage 10 0x3000 0xafff 2 0 1
+    ∷ quick "a field taken for plain that is not to be stored to" asIfLoaded 10 0x3800 0xa000 2 0 1
     ∷ []

@@ -18,7 +18,7 @@ use Rattle.slips.specs.Row.{Row, row}
 use Rattle.slips.specs.Seen.{lent, behindDoor, stepLeaving, steps}
 
 -- W set by a store that is refused
-abbrev writtenAnyway : Framed → Framed → Access → ℕ → Framed
+abbrev pub writtenAnyway : Framed → Framed → Access → ℕ → Framed
 writtenAnyway kept s acc a = framedOf (kept .mem) (pick (isStore acc) (writtenAt (kept .map) a) (kept .map))
 
 -- G set by what a refused instruction had looked up so far
@@ -89,14 +89,18 @@ marks s = take 2 (drop 10 (s .map))
 abbrev onPage11 : List ℕ → ℕ → Given
 onPage11 instruction word = lent (instruction ++ 0xff ∷ []) [] word (0 ∷ 0x12345678 ∷ 0xb000 ∷ []) 0xa000
 
+-- ST 1,4(2) to a page with E set
+abbrev pub storing : Given
+storing = onPage11 (0x50 ∷ 0x10 ∷ 0x20 ∷ 4 ∷ []) 0x3800
+
 -- LA 1,5 at 00AFFE, its second halfword in page 11
 abbrev atTheEnd : ℕ → Given
 atTheEnd word = lent (0 ∷ 5 ∷ []) (replicate 14 0 ++ 0x41 ∷ 0x10 ∷ []) word [] 0xaffe
 
 abbrev pub slips : List Row
 slips =
-    -- ST 1,4(2) to a page with E set, and to one that is absent
-    steps "W set by a store that was refused" (stepLeaving writtenAnyway step) (onPage11 (0x50 ∷ 0x10 ∷ 0x20 ∷ 4 ∷ []) 0x3800) 0x3800 0xb800
+    steps "W set by a store that was refused" (stepLeaving writtenAnyway step) storing 0x3800 0xb800
+    -- the same to a page that is absent
     ∷ steps "G set by a refused instruction" (stepLeaving accessedAnyway step) (onPage11 (0x50 ∷ 0x10 ∷ 0x20 ∷ 4 ∷ []) 0) 0x3000 0x7000
     -- IC 1,4(2) from a page that is absent; NI, OI and XI to one with E set
     ∷ steps "IC not undone on a page fault" (stepSpoiling notUndone) (onPage11 (0x43 ∷ 0x10 ∷ 0x20 ∷ 4 ∷ []) 0) 0x12345678 0x12345600

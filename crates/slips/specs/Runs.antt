@@ -57,17 +57,21 @@ placed budget g =
 abbrev cutting : Given → Outcome
 cutting g = turnedAway (given (g .mem) (g .map) (g .regs) (g .pc % 16777216) (g .code) (g .mask))
 
+-- code and mask handed on in each other's place
+abbrev swapped : ℕ → Given → Outcome
+swapped budget g = runOutcome budget (given (g .mem) (g .map) (g .regs) (g .pc) (g .mask) (g .code))
+
 abbrev runs : String → (ℕ → Given → Outcome) → ℕ → Given → ℕ → ℕ → Row
 runs slip slipped budget g one other = row slip (seen (runOutcome budget g)) (seen (slipped budget g)) one other
 
--- LA 1,5, and then no operation; nothing at all, with this counter
+-- LA 1,5, and then no operation; nothing at all, with this counter, code 1 and mask 2
 abbrev five : Given
 five = lone (0x41 ∷ 0x10 ∷ 0 ∷ 5 ∷ []) []
 
 abbrev nothing : ℕ → Given
 nothing pc =
     let g = lone [] [] in
-    given (g .mem) (g .map) (g .regs) pc 0 0
+    given (g .mem) (g .map) (g .regs) pc 1 2
 
 abbrev pub slips : List Row
 slips =
@@ -79,4 +83,6 @@ slips =
     -- the first instruction is in page 0, which is absent
     ∷ runs "budget of 65,536 accepted" (door 65536 turnedAway ran) 65536 (nothing 0) 6 3
     ∷ runs "number 6 that alters something" (door 65535 cutting ran) 1 (nothing 0x100a000) 0x100a000 0xa000
+    -- guarantee::run
+    ∷ runs "code and mask swapped" swapped 0 (nothing 0) 1 2
     ∷ []

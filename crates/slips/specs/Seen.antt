@@ -10,9 +10,11 @@ use Rattle.words.specs.Whole.{signed, kept, overflows, spread}
 use Rattle.words.specs.Codes.{signCode, compareSigned, compareBits, zeroCode, maskCode}
 use Rattle.words.specs.Combine.{signedResult, carried, logicOf, combineOf, shiftedLeft, shiftedRight}
 use Rattle.pages.specs.declared.Access.{Access}
+use Rattle.pages.specs.declared.Access.the-variants.{Fetch}
 use Rattle.pages.specs.Word.{bitW, bitG, bitU, bitS, bitE, bitM, bitH, bitsX, frame, pageOf, dispOf, next, base, size, real, wordOf, accessed, written}
 use Rattle.pages.specs.Tests as tests
 use Rattle.pages.specs.Look.{lookOf}
+use Rattle.pages.specs.Plain.{realOf, ordinary, plain}
 use Rattle.pages.specs.Framed.{Framed, accessedAt, writtenAt, readByte, writeByte}
 use Rattle.code.specs.declared.Found.{Found}
 use Rattle.code.specs.declared.RrFields.{RrFields}
@@ -41,7 +43,7 @@ use Rattle.slips.specs.Row.{Row, row}
 unfoldable pub computes : Unit {0}
 unfolding signed kept overflows spread signCode compareSigned compareBits zeroCode maskCode signedResult carried logicOf combineOf
     shiftedLeft shiftedRight bitW bitG bitU bitS bitE bitM bitH bitsX frame pageOf dispOf next base size real wordOf accessed written
-    tests.table tests.tests lookOf accessedAt writtenAt readByte writeByte code.table code.actionOf interp run looks gets puts moves
+    tests.table tests.tests lookOf realOf ordinary plain accessedAt writtenAt readByte writeByte code.table code.actionOf interp run looks gets puts moves
     compares loading storing halfword reg ahead part address chosen link lessOne branch rr taken rx fills spills indexSum comparand
     isHigh rs si ss act step proper stepOutcome runOutcome
 computes = tt
@@ -77,10 +79,10 @@ abbrev pub stepBy : (Cpu → Prog Cpu) → Given → Outcome
 stepBy program =
     behindDoor (λ g. one (cpuIn g) (interp framed (program (cpuIn g)) (storeIn g) (storeIn g)))
 
--- the interpreter, but a look-up that fails hands back what `left` makes of the store before the instruction and of the store as it is now
+-- the interpreter, but a refusal hands back what `left` makes of the store before the instruction and of the store as it is now
 abbrev pub interpBy : {R : Type 0} → (Framed → Framed → Access → ℕ → Framed) → Prog R → Framed → Framed → Answer R Framed
 interpBy left (done r) kept s = finished r s
-interpBy left (fail n a) kept s = refused n a kept
+interpBy left (fail n a) kept s = refused n a (left kept s Fetch a)
 interpBy left (look acc a k) kept s =
     after (framed .looked s acc a) (λ t. interpBy left k kept t) (framed .noted s acc a) a (left kept s acc a)
 interpBy left (get a k) kept s = interpBy left (k (framed .read s a)) kept s
