@@ -1,5 +1,5 @@
--- What the tables show. The promise of a function is an equation with the right definition for every input; so where on some input the right
--- and the slipped answer differ, no proof of the slipped program can exist, whatever its shape.
+-- What the tables show. The promise of a function is an equation with the right definition for every input; so where the right and the
+-- slipped answer differ on some input, no proof of the slipped program can exist, whatever its shape.
 use Prim.Native.Nat.{ℕ}
 use Prim.Native.String.{String}
 use mathlib.Core.Path.{_≡_, refl, sym, _∙_, ap, subst}

@@ -5,7 +5,7 @@ use mathlib.Core.List.{List, [], _∷_, _++_}
 use lib.Dec.{eqb, ltb}
 use lib.ListN.{length}
 use Rattle.words.specs.Pick.{pick}
-use Rattle.printing.specs.Digits.{digit, digitsOf, hexOf, bare, decimalOf}
+use Rattle.printing.specs.Digits.{digit, digitsOf, bare, decimalOf}
 use Rattle.printing.specs.Lines.{STOP, LF, field, stopLine, regLine, startLine, pageLine}
 use Rattle.printing.specs.Answer.{regPart, pagePart, regsFrom, pagesFrom, answerText}
 use Rattle.slips.specs.Row.{Row, row}
@@ -40,9 +40,12 @@ abbrev decimalPlace : ℕ → ℕ → ℕ → List ℕ
 decimalPlace number place count =
     STOP ++ field (decimalOf number) ++ field (decimalOf place) ++ field (decimalOf count) ++ LF
 
--- the page words compared with themselves
+-- an answer with these page words at the start and at the end; the page words at the end compared with themselves
+abbrev answered : List ℕ → List ℕ → List ℕ
+answered before after = answerText 7 0 1 0xa004 0 0 [] before after
+
 abbrev noneAltered : List ℕ → List ℕ → List ℕ
-noneAltered before after = answerText 7 0 1 0xa004 0 0 [] after after
+noneAltered before after = answered after after
 
 -- a row of two texts: their lengths, then their characters
 abbrev texts : String → List ℕ → List ℕ → ℕ → ℕ → Row
@@ -59,5 +62,5 @@ slips =
     ∷ texts "lower-case hex" (digit 10 ∷ []) (lowerCase 10 ∷ []) 65 97
     ∷ texts "decimal place" (stopLine 3 0xa000 0) (decimalPlace 3 0xa000 0) 16 15
     -- sheet::answer
-    ∷ texts "no page counts as altered" (answerText 7 0 1 0xa004 0 0 [] (0x3003 ∷ []) (0x7003 ∷ [])) (noneAltered (0x3003 ∷ []) (0x7003 ∷ [])) 45 33
+    ∷ texts "no page counts as altered" (answered (0x3003 ∷ []) (0x7003 ∷ [])) (noneAltered (0x3003 ∷ []) (0x7003 ∷ [])) 45 33
     ∷ []

@@ -1,16 +1,16 @@
 -- Slips in branches and in the link. All are of `engine::step`.
-use Prim.Native.Nat.{ℕ, _+_, _*_, _/_, _%_, _^_}
+use Prim.Native.Nat.{_+_, _*_, _/_, _%_, _^_}
 use mathlib.Core.Bool.{true, not}
 use mathlib.Core.List.{List, [], _∷_}
 use lib.Dec.{eqb, ltb}
 use lib.Signed.{ltZ}
 use Rattle.words.specs.Whole.{word, signed}
-use Rattle.code.specs.declared.Branch.the-variants.{AndLink, OnCount}
+use Rattle.code.specs.declared.Branch.the-variants.{OnCount}
 use Rattle.code.specs.declared.RrFields.{RrFields}
 use Rattle.code.specs.declared.RxFields.{RxFields}
 use Rattle.code.specs.declared.RsFields.{RsFields}
 use Rattle.machine.specs.Prog.{Prog, done}
-use Rattle.machine.specs.Cpu.{Cpu, reg, withReg, withPc, onward, ahead, target}
+use Rattle.machine.specs.Cpu.{Cpu, withReg, withPc, onward, ahead, target}
 use Rattle.machine.specs.Branches.{going, link, branch}
 use Rattle.machine.specs.Rx.{rxAddress}
 use Rattle.machine.specs.Rs.{rsAddress, indexSum, comparand}
@@ -51,14 +51,17 @@ logicalCompare f c =
 abbrev pub slips : List Row
 slips =
     -- BALR 1,1
-    operation "BALR storing the link before reading the target" 0x05 (asRr linkFirst) (lone (0x05 ∷ 0x11 ∷ []) (0 ∷ 0xc000 ∷ [])) 0xc000 0xa002
+    operation "BALR storing the link before reading the target" 0x05 (asRr linkFirst)
+    (lone (0x05 ∷ 0x11 ∷ []) (0 ∷ 0xc000 ∷ [])) 0xc000 0xa002
     -- BAL 1,0(2)
-    ∷ operation "BAL's length code in bytes" 0x45 (asRx lengthInBytes) (lone (0x45 ∷ 0x10 ∷ 0x20 ∷ 0 ∷ []) (0 ∷ 0 ∷ 0xc000 ∷ [])) 0x8000a004 0xa004
+    ∷ operation "BAL's length code in bytes" 0x45 (asRx lengthInBytes)
+    (lone (0x45 ∷ 0x10 ∷ 0x20 ∷ 0 ∷ []) (0 ∷ 0 ∷ 0xc000 ∷ [])) 0x8000a004 0xa004
     -- BCTR 1,0
     ∷ operation "BCTR branching through register 0" 0x06 (asRr throughZero) (lone (0x06 ∷ 0x10 ∷ []) (0xc000 ∷ 5 ∷ [])) 0xa002 0xc000
     -- BC 8,0(2)
-    ∷ operation "branch mask from the right" 0x47 (asRx fromTheRight) (lone (0x47 ∷ 0x80 ∷ 0x20 ∷ 0 ∷ []) (0 ∷ 0 ∷ 0xc000 ∷ [])) 0xc000 0xa004
-    -- BXLE 3,4,0(2), where 5 is compared with: 6 and 1; BXLE 5,4,0(2), where R1 itself is
+    ∷ operation "branch mask from the right" 0x47 (asRx fromTheRight)
+    (lone (0x47 ∷ 0x80 ∷ 0x20 ∷ 0 ∷ []) (0 ∷ 0 ∷ 0xc000 ∷ [])) 0xc000 0xa004
+    -- BXLE 5,4,0(2), where R1 itself is compared with: 5 and 1 against 5
     ∷ operation "BXLE comparand read after the sum is stored" 0x87 (asRs sumFirst)
     (lone (0x87 ∷ 0x54 ∷ 0x20 ∷ 0 ∷ []) (0 ∷ 0 ∷ 0xc000 ∷ 0 ∷ 1 ∷ 5 ∷ [])) 0xa004 0xc000
     -- BXLE 3,4,0(2): -1 and 0 against 1

@@ -1,7 +1,7 @@
 -- Slips in loads, stores and shifts, one operation each. All are of `engine::step`.
-use Prim.Native.Nat.{ℕ, zero, suc, _+_, _-_, _*_, _/_, _%_}
-use mathlib.Core.List.{List, [], _∷_, _++_}
-use lib.Dec.{eqb, ltb}
+use Prim.Native.Nat.{_+_, _-_, _*_, _/_, _%_}
+use mathlib.Core.List.{List, [], _∷_}
+use lib.Dec.{ltb}
 use Rattle.words.specs.Pick.{pick}
 use Rattle.words.specs.Codes.{zeroCode}
 use Rattle.words.specs.Combine.{shiftedLeft}
@@ -9,7 +9,6 @@ use Rattle.pages.specs.declared.Access.the-variants.{Load, Store}
 use Rattle.pages.specs.Word.{next}
 use Rattle.code.specs.declared.RxFields.{RxFields}
 use Rattle.code.specs.declared.RsFields.{RsFields}
-use Rattle.code.specs.declared.Found.{Found}
 use Rattle.machine.specs.Prog.{Prog, done, put}
 use Rattle.machine.specs.Fields.{looks, aligned, storing}
 use Rattle.machine.specs.Cpu.{Cpu, reg, withReg, withCode, onward, part}

@@ -1,12 +1,10 @@
 -- Slips in the order of tests, in the fetch, and in the instruction code. All but the last are of `engine::step`.
 use Prim.Native.Nat.{ℕ, _-_, _%_}
-use Prim.Native.String.{String}
 use mathlib.Core.List.{List, [], _∷_, _++_}
 use lib.Dec.{eqb, ltb}
 use lib.ListN.{replicate}
 use Rattle.words.specs.declared.Alu.the-variants.{Load}
 use Rattle.words.specs.Pick.{pick}
-use Rattle.pages.specs.declared.Access.{Access}
 use Rattle.pages.specs.declared.Access.the-variants as access
 use Rattle.code.specs.declared.Operand.the-variants.{WordWith}
 use Rattle.code.specs.declared.RxAction.the-variants.{Taking, LoadAddress}

@@ -8,7 +8,7 @@ use Rattle.pages.specs.Framed.{Framed}
 use Rattle.machine.specs.Run.{Result, oneMore, run}
 use Rattle.machine.specs.Cpu.{Cpu}
 use Rattle.machine.specs.Step.{step}
-use Rattle.machine.specs.Machine.{Given, Outcome, given, outcome, proper, turnedAway, cpuIn, storeIn, outcomeOf, opsFor, runOutcome}
+use Rattle.machine.specs.Machine.{Given, Outcome, given, proper, turnedAway, cpuIn, storeIn, outcomeOf, opsFor, runOutcome}
 use Rattle.slips.specs.Row.{Row, row}
 use Rattle.slips.specs.Seen.{lone, seen}
 

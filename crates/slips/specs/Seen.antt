@@ -16,14 +16,12 @@ use Rattle.pages.specs.Tests as tests
 use Rattle.pages.specs.Look.{lookOf}
 use Rattle.pages.specs.Plain.{realOf, ordinary, plain}
 use Rattle.pages.specs.Framed.{Framed, accessedAt, writtenAt, readByte, writeByte}
-use Rattle.code.specs.declared.Found.{Found}
 use Rattle.code.specs.declared.RrFields.{RrFields}
 use Rattle.code.specs.declared.RxFields.{RxFields}
 use Rattle.code.specs.declared.RsFields.{RsFields}
-use Rattle.code.specs.declared.SiFields.{SiFields}
 use Rattle.code.specs.declared.SsFields.{SsFields}
 use Rattle.code.specs.Table as code
-use Rattle.code.specs.Formats.{opOf, rrOf, rxOf, rsOf, siOf, ssOf}
+use Rattle.code.specs.Formats.{opOf, rrOf, rxOf, rsOf, ssOf}
 use Rattle.machine.specs.Prog.{Prog, Answer, finished, refused, done, fail, look, get, put, after, interp}
 use Rattle.machine.specs.Run.{Result, one, run}
 use Rattle.machine.specs.Store.{framed}
@@ -43,9 +41,9 @@ use Rattle.slips.specs.Row.{Row, row}
 unfoldable pub computes : Unit {0}
 unfolding signed kept overflows spread signCode compareSigned compareBits zeroCode maskCode signedResult carried logicOf combineOf
     shiftedLeft shiftedRight bitW bitG bitU bitS bitE bitM bitH bitsX frame pageOf dispOf next base size real wordOf accessed written
-    tests.table tests.tests lookOf realOf ordinary plain accessedAt writtenAt readByte writeByte code.table code.actionOf interp run looks gets puts moves
-    compares loading storing halfword reg ahead part address chosen link lessOne branch rr taken rx fills spills indexSum comparand
-    isHigh rs si ss act step proper stepOutcome runOutcome
+    tests.table tests.tests lookOf realOf ordinary plain accessedAt writtenAt readByte writeByte code.table code.actionOf interp run looks
+    gets puts moves compares loading storing halfword reg ahead part address chosen link lessOne branch rr taken rx fills spills indexSum
+    comparand isHigh rs si ss act step proper stepOutcome runOutcome
 computes = tt
 
 -- Memory is one frame, and pages 10 and 11 both lie on it: page 10 with word 3000, page 11 with the word that is said. So what follows
@@ -53,7 +51,11 @@ computes = tt
 -- registers, from 0 on; this counter; code and mask zero.
 abbrev pub lent : List ℕ → List ℕ → ℕ → List ℕ → ℕ → Given
 lent first last word regs pc =
-    given (sets (sets (replicate 4096 0) 4080 last) 0 first) (sets (replicate 512 0) 10 (0x3000 ∷ word ∷ [])) (sets (replicate 16 0) 0 regs) pc 0 0
+    given (sets (sets (replicate 4096 0) 4080 last) 0 first) (sets (replicate 512 0) 10 (0x3000 ∷ word ∷ []))
+    (sets (replicate 16 0) 0 regs)
+    pc
+    0
+    0
 
 -- an instruction at 00A000, and perhaps its operand
 abbrev pub lone : List ℕ → List ℕ → Given
@@ -109,9 +111,6 @@ asRx action h1 c = halfword (ahead c 2) (λ h2. action (rxOf h1 h2) c)
 
 abbrev pub asRs : (RsFields → Cpu → Prog Cpu) → ℕ → Cpu → Prog Cpu
 asRs action h1 c = halfword (ahead c 2) (λ h2. action (rsOf h1 h2) c)
-
-abbrev pub asSi : (SiFields → Cpu → Prog Cpu) → ℕ → Cpu → Prog Cpu
-asSi action h1 c = halfword (ahead c 2) (λ h2. action (siOf h1 h2) c)
 
 abbrev pub asSs : (SsFields → Cpu → Prog Cpu) → ℕ → Cpu → Prog Cpu
 asSs action h1 c = halfword (ahead c 2) (λ h2. halfword (ahead c 4) (λ h3. action (ssOf h1 h2 h3) c))
