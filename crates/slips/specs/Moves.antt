@@ -46,6 +46,11 @@ secondFirst f c =
     (looks Store (firstAddress f c) (suc (f .l))
     (moves (firstAddress f c) (secondAddress f c) (suc (f .l)) (done (onward c 6))))
 
+-- the second field not looked up
+abbrev oneField : SsFields → Cpu → Prog Cpu
+oneField f c =
+    looks Store (firstAddress f c) (suc (f .l)) (moves (firstAddress f c) (secondAddress f c) (suc (f .l)) (done (onward c 6)))
+
 -- the first byte of each field alone looked up
 abbrev firstBytes : SsFields → Cpu → Prog Cpu
 firstBytes f c =
@@ -122,6 +127,8 @@ slips =
     -- MVC 0(4,3),0(4), with E set on page 11
     ∷ operation "E tested on the field that is only read" 0xd2 (asSs bothStored)
     (crossing (0xd2 ∷ 3 ∷ 0x30 ∷ 0 ∷ 0x40 ∷ 0 ∷ []) 0x3800) 0 4
+    -- the same, with page 11 absent
+    ∷ operation "the second field not looked up" 0xd2 (asSs oneField) (crossing (0xd2 ∷ 3 ∷ 0x30 ∷ 0 ∷ 0x40 ∷ 0 ∷ []) 0) 3 0
     -- MVC 0(4,4),0(0), with page 11 absent as page 0 is
     ∷ operation "the second field looked up before the first" 0xd2 (asSs secondFirst)
     (crossing (0xd2 ∷ 3 ∷ 0x40 ∷ 0 ∷ 0 ∷ 0 ∷ []) 0) 0xb000 0

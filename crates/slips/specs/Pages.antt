@@ -1,4 +1,4 @@
--- Slips in the look-up of a byte, in the marks, and in the quick way: of `pages::look_up`, `note_written` and `is_plain`.
+-- Slips in the look-up of a byte, in the marks, and in the quick way: of functions of `pages`.
 use Prim.Native.Nat.{ℕ, _+_, _*_, _%_}
 use Prim.Native.String.{String}
 use mathlib.Core.Bool.{Bool}
@@ -12,7 +12,7 @@ use Rattle.pages.specs.declared.Access.the-variants.{Load, Store}
 use Rattle.pages.specs.declared.Cause.the-variants.{Addressing, PagingError}
 use Rattle.pages.specs.declared.Look.{Look}
 use Rattle.pages.specs.declared.Look.the-variants.{At, Refused}
-use Rattle.pages.specs.Word.{bitH, bitsX, frame, pageOf, dispOf, real, wordOf, written}
+use Rattle.pages.specs.Word.{bitH, bitsX, frame, pageOf, dispOf, next, real, wordOf, written}
 use Rattle.pages.specs.Tests.{test, table, firstBad, numberOf, tests}
 use Rattle.pages.specs.Look.{within, lookOf}
 use Rattle.pages.specs.Plain.{realOf, ordinary, plain}
@@ -88,14 +88,20 @@ quick slip slipped page word a len one other =
 abbrev clearing : ℕ → ℕ
 clearing w = 32768 + w % 16384
 
+-- the byte after the last, outside 24 bits
+abbrev unwrapped : ℕ → ℕ
+unwrapped a = a + 1
+
 abbrev pub slips : List Row
 slips =
+    -- pages::look_up, note_written, next_of
     looked "page 10 found as 110" (finding byEnding) 110 0x3003 0xa000 3 0
     ∷ looked "9 bits of the page's number cut to 6" (finding bySixBits) 10 0x3003 0x4a000 3 0
     ∷ looked "H honoured when M is reset" upperHalf 10 0x3203 0xa000 12288 14336
     ∷ looked "X tested before U" xFirst 10 0x1043 0xa000 3 4
     ∷ looked "one byte past memory allowed" oneMore 10 0x3010 0xa000 1 0
     ∷ row "a W mark that clears G" (written 0x7003 ∷ []) (clearing 0x7003 ∷ []) 0xf003 0xb003
+    ∷ row "a byte address that does not wrap" (next 0xffffff ∷ []) (unwrapped 0xffffff ∷ []) 0 0x1000000
     -- pages::is_plain: two bytes from 00AFFF on, and from 00A000 on with E set
     ∷ quick "a field taken for plain whose last byte has another page" nextPage 10 0x3000 0xafff 2 0 1
     ∷ quick "a field taken for plain that is not to be stored to" asIfLoaded 10 0x3800 0xa000 2 0 1

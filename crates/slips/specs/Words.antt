@@ -11,7 +11,7 @@ use Rattle.words.specs.declared.Alu.{Alu}
 use Rattle.words.specs.declared.Res.{Res}
 use Rattle.words.specs.declared.Alu.the-variants.{Complement, Add, Subtract, SubtractLogical, CompareLogical}
 use Rattle.words.specs.Pick.{pick, either}
-use Rattle.words.specs.Whole.{word, signed, kept}
+use Rattle.words.specs.Whole.{word, signed, kept, spread}
 use Rattle.words.specs.Codes.{signCode, compareSigned, maskCode}
 use Rattle.words.specs.Combine.{plain, carried, combineOf, shiftedLeft}
 use Rattle.slips.specs.Row.{Row, row}
@@ -54,6 +54,10 @@ fiveBits a n = a * 2 ^ (n % 32) % 4294967296
 abbrev onesFirst : ℕ → ℕ → ℕ
 onesFirst b mask = pick (eqb (bitAnd b mask) mask) 3 (pick (eqb (bitAnd b mask) 0) 0 1)
 
+-- a halfword that is widened with zeros
+abbrev zeros : ℕ → ℕ
+zeros h = h
+
 -- value and code of `words::combine` for two operands, the code before being 0; and a number that is made of two
 abbrev results : String → Alu → (ℕ → ℕ → Res) → ℕ → ℕ → ℕ → ℕ → Row
 results slip op slipped a b one other = row slip (told (combineOf op a b 0)) (told (slipped a b)) one other
@@ -74,4 +78,6 @@ slips =
     -- words::shift_left and mask_code
     ∷ numbers "shift amounts of five bits" shiftedLeft fiveBits 1 32 0 1
     ∷ numbers "TM with mask 0 as code 3" maskCode onesFirst 0x5a 0 0 3
+    -- words::widen
+    ∷ row "LH without its sign" (spread 0x8000 ∷ []) (zeros 0x8000 ∷ []) 0xffff8000 0x8000
     ∷ []
