@@ -1,4 +1,4 @@
--- Slips of a machine that refuses and leaves a trace, or completes and leaves the wrong marks. All are of `engine::step`.
+-- Slips of a machine that refuses and leaves a trace, or completes and leaves the wrong marks. All but the last are of `engine::step`.
 use Prim.Native.Nat.{ℕ}
 use mathlib.Core.List.{List, [], _∷_, _++_}
 use lib.ListN.{take, drop, replicate}
