@@ -1,0 +1,5 @@
+pub mod Argument
+pub mod Shown
+pub mod Instance
+pub mod Premises
+pub mod Weak
