@@ -10,8 +10,8 @@ use lib.Seq.{getD-set-other}
 use Rattle.pages.specs.Word.{bitE, base, size, real, wordOf, Writable}
 use Rattle.machine.specs.Machine.{Given, cpuIn, storeIn, runOutcome}
 use Rattle.demand.specs.Plain.{Plain, plainRun, shown}
-use Rattle.demand.specs.Demand.{SamePages, Agrees}
-use Rattle.demand.proofs.Third.{shown-same}
+use Rattle.demand.specs.DemandThree.{SamePages, Agrees}
+use Rattle.demand.proofs.DemandThreeHolds.{shown-same}
 use Rattle.slips.specs.Plain.{computes, loaded, noPages}
 use Rattle.slips.proofs.Premises.{no-word, not-usable}
 

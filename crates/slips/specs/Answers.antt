@@ -5,14 +5,14 @@ use mathlib.Core.List.{List, [], _∷_, _++_}
 use lib.Dec.{eqb, ltb}
 use lib.ListN.{length}
 use Rattle.words.specs.Pick.{pick}
-use Rattle.printing.specs.Digits.{digit, digitsOf, bare, decimalOf}
+use Rattle.printing.specs.Digits.{digit, digitsOf, trimmed, decimalOf}
 use Rattle.printing.specs.Lines.{STOP, LF, field, stopLine, regLine, startLine, pageLine}
 use Rattle.printing.specs.Answer.{regPart, pagePart, regsFrom, pagesFrom, answerText}
 use Rattle.slips.specs.Row.{Row, row}
 
 -- the definitions that this table computes
 unfoldable pub computes : Unit {0}
-unfolding digit digitsOf bare decimalOf stopLine regLine startLine pageLine regPart pagePart regsFrom pagesFrom answerText
+unfolding digit digitsOf trimmed decimalOf stopLine regLine startLine pageLine regPart pagePart regsFrom pagesFrom answerText
 computes = tt
 
 -- the page's word as it was before

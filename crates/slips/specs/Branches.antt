@@ -4,7 +4,7 @@ use mathlib.Core.Bool.{true, not}
 use mathlib.Core.List.{List, [], _∷_}
 use lib.Dec.{eqb, ltb}
 use lib.Signed.{ltZ}
-use Rattle.words.specs.Whole.{word, signed}
+use Rattle.words.specs.Whole.{wordTop, signed}
 use Rattle.code.specs.declared.Branch.the-variants.{OnCount}
 use Rattle.code.specs.declared.RrFields.{RrFields}
 use Rattle.code.specs.declared.RxFields.{RxFields}
@@ -26,8 +26,8 @@ linkFirst f c =
 -- BAL whose link has the instruction's length in bytes
 abbrev lengthInBytes : RxFields → Cpu → Prog Cpu
 lengthInBytes f c =
-    let word = (4 * 1073741824 + c .code * 268435456 + c .mask * 16777216 + ahead c 4) % 4294967296 in
-    done (withPc (withReg c (f .r1) word) (rxAddress f c))
+    let wordTop = (4 * 1073741824 + c .code * 268435456 + c .mask * 16777216 + ahead c 4) % 4294967296 in
+    done (withPc (withReg c (f .r1) wordTop) (rxAddress f c))
 
 -- BCTR that branches through register 0
 abbrev throughZero : RrFields → Cpu → Prog Cpu
@@ -41,7 +41,7 @@ fromTheRight f c = done (going (eqb (f .r1 / 2 ^ c .code % 2) 1) (rxAddress f c)
 abbrev sumFirst : RsFields → Cpu → Prog Cpu
 sumFirst f c =
     let stored = withReg (onward c 4) (f .r1) (indexSum f c) in
-    done (going (not (ltZ (signed word (comparand f stored)) (signed word (indexSum f c)))) (rsAddress f c) stored)
+    done (going (not (ltZ (signed wordTop (comparand f stored)) (signed wordTop (indexSum f c)))) (rsAddress f c) stored)
 
 -- BXLE whose compare is logical
 abbrev logicalCompare : RsFields → Cpu → Prog Cpu

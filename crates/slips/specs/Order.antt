@@ -13,7 +13,7 @@ use Rattle.code.specs.declared.Found.{Found}
 use Rattle.code.specs.declared.RxFields.{RxFields}
 use Rattle.code.specs.declared.SsFields.{SsFields}
 use Rattle.code.specs.Table.{actionOf}
-use Rattle.code.specs.Formats.{opOf, rightOf, baseOf, dispOf, rxOf, ssOf}
+use Rattle.code.specs.Formats.{opOf, rightOf, baseOf, displacementOf, rxOf, ssOf}
 use Rattle.machine.specs.Prog.{Prog, done, fail}
 use Rattle.machine.specs.Fields.{looks, gets, aligned, halfword}
 use Rattle.machine.specs.Cpu.{Cpu, withReg, onward, ahead}
@@ -72,7 +72,7 @@ swapped k = actionOf (pick (eqb k 0x88) 0x89 (pick (eqb k 0x89) 0x88 k))
 -- a length of four bits
 abbrev shortLength : ℕ → ℕ → ℕ → SsFields
 shortLength h1 h2 h3 =
-    record { l = rightOf h1; b1 = baseOf h2; d1 = dispOf h2; b2 = baseOf h3; d2 = dispOf h3 }
+    record { l = rightOf h1; b1 = baseOf h2; d1 = displacementOf h2; b2 = baseOf h3; d2 = displacementOf h3 }
 
 abbrev told : SsFields → List ℕ
 told f = f .l ∷ f .b1 ∷ f .d1 ∷ f .b2 ∷ f .d2 ∷ []

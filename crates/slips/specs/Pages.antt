@@ -13,9 +13,9 @@ use Rattle.pages.specs.declared.Cause.the-variants.{Addressing, PagingError}
 use Rattle.pages.specs.declared.Look.{Look}
 use Rattle.pages.specs.declared.Look.the-variants.{At, Refused}
 use Rattle.pages.specs.Word.{bitH, bitsX, frame, pageOf, dispOf, next, real, wordOf, written}
-use Rattle.pages.specs.Tests.{test, table, firstBad, numberOf, tests}
-use Rattle.pages.specs.Look.{within, lookOf}
-use Rattle.pages.specs.Plain.{realOf, ordinary, plain}
+use Rattle.pages.specs.Tests.{test, sixTests, firstBad, numberOf, tests}
+use Rattle.pages.specs.Look.{testSeven, lookOf}
+use Rattle.pages.specs.Compact.{realOf, ordinary, compact}
 use Rattle.slips.specs.Row.{Row, row}
 
 -- a look-up in a map and a memory of n bytes
@@ -26,7 +26,7 @@ LookUp = List ℕ → ℕ → Access → ℕ → Look
 abbrev finding : (List ℕ → ℕ → ℕ) → LookUp
 finding find map n acc a =
     let w = find map (pageOf a) in
-    within (tests acc a w) (real w (dispOf a)) n a
+    testSeven (tests acc a w) (real w (dispOf a)) n a
 
 -- found as in a text: a page that has no word is taken for the first whose number ends with its digits, 10 for 110
 abbrev byEnding : List ℕ → ℕ → ℕ
@@ -40,13 +40,13 @@ bySixBits map p = wordOf map (p % 64)
 abbrev upperHalf : LookUp
 upperHalf map n acc a =
     let w = wordOf map (pageOf a) in
-    within (tests acc a w) (frame w * 4096 + pick (eqb (bitH w) 1) 2048 0 + dispOf a) n a
+    testSeven (tests acc a w) (frame w * 4096 + pick (eqb (bitH w) 1) 2048 0 + dispOf a) n a
 
 -- X tested before U: right after the first test, and once more in its place
 abbrev xFirst : LookUp
 xFirst map n acc a =
     let w = wordOf map (pageOf a) in
-    within (firstBad (test (leb 2097152 a) Addressing ∷ test (ltb 0 (bitsX w)) PagingError ∷ table acc a w)) (real w (dispOf a)) n a
+    testSeven (firstBad (test (leb 2097152 a) Addressing ∷ test (ltb 0 (bitsX w)) PagingError ∷ sixTests acc a w)) (real w (dispOf a)) n a
 
 -- one byte past memory allowed
 abbrev oneMore : LookUp
@@ -65,21 +65,21 @@ looked slip slipped page word a one other =
     map : List ℕ
     map = sets (replicate 512 0) page (word ∷ [])
 
--- a field taken for plain that has one byte more than its page has left
+-- a field taken for compact that has one byte more than its page has left
 abbrev nextPage : List ℕ → ℕ → Access → ℕ → ℕ → Bool
 nextPage map n acc a len =
     both (ltb 0 len)
     (both (ltb a 2097152)
     (both (leb (a % 4096 + len) 4097) (both (ordinary (wordOf map (pageOf a)) acc) (leb (realOf map a + len) n))))
 
--- a field taken for plain that is not to be stored to
+-- a field taken for compact that is not to be stored to
 abbrev asIfLoaded : List ℕ → ℕ → Access → ℕ → ℕ → Bool
-asIfLoaded map n acc a len = plain map n Load a len
+asIfLoaded map n acc a len = compact map n Load a len
 
--- whether a field of len bytes from a on, to be stored to, is plain in two frames of memory, under this one page word
+-- whether a field of len bytes from a on, to be stored to, is compact in two frames of memory, under this one page word
 abbrev quick : String → (List ℕ → ℕ → Access → ℕ → ℕ → Bool) → ℕ → ℕ → ℕ → ℕ → ℕ → ℕ → Row
 quick slip slipped page word a len one other =
-    row slip (pick (plain map 8192 Store a len) 1 0 ∷ []) (pick (slipped map 8192 Store a len) 1 0 ∷ []) one other
+    row slip (pick (compact map 8192 Store a len) 1 0 ∷ []) (pick (slipped map 8192 Store a len) 1 0 ∷ []) one other
   where
     map : List ℕ
     map = sets (replicate 512 0) page (word ∷ [])
@@ -102,7 +102,7 @@ slips =
     ∷ looked "one byte past memory allowed" oneMore 10 0x3010 0xa000 1 0
     ∷ row "a W mark that clears G" (written 0x7003 ∷ []) (clearing 0x7003 ∷ []) 0xf003 0xb003
     ∷ row "a byte address that does not wrap" (next 0xffffff ∷ []) (unwrapped 0xffffff ∷ []) 0 0x1000000
-    -- pages::is_plain: two bytes from 00AFFF on, and from 00A000 on with E set
-    ∷ quick "a field taken for plain whose last byte has another page" nextPage 10 0x3000 0xafff 2 0 1
-    ∷ quick "a field taken for plain that is not to be stored to" asIfLoaded 10 0x3800 0xa000 2 0 1
+    -- pages::is_compact: two bytes from 00AFFF on, and from 00A000 on with E set
+    ∷ quick "a field taken for compact whose last byte has another page" nextPage 10 0x3000 0xafff 2 0 1
+    ∷ quick "a field taken for compact that is not to be stored to" asIfLoaded 10 0x3800 0xa000 2 0 1
     ∷ []

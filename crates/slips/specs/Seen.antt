@@ -11,10 +11,10 @@ use Rattle.words.specs.Codes.{signCode, compareSigned, compareBits, zeroCode, m
 use Rattle.words.specs.Combine.{signedResult, carried, logicOf, combineOf, shiftedLeft, shiftedRight}
 use Rattle.pages.specs.declared.Access.{Access}
 use Rattle.pages.specs.declared.Access.the-variants.{Fetch}
-use Rattle.pages.specs.Word.{bitW, bitG, bitU, bitS, bitE, bitM, bitH, bitsX, frame, pageOf, dispOf, next, base, size, real, wordOf, accessed, written}
+use Rattle.pages.specs.Word.{bitG, bitU, bitS, bitE, bitM, bitH, bitsX, frame, pageOf, dispOf, next, base, size, real, wordOf, accessed, written}
 use Rattle.pages.specs.Tests as tests
 use Rattle.pages.specs.Look.{lookOf}
-use Rattle.pages.specs.Plain.{realOf, ordinary, plain}
+use Rattle.pages.specs.Compact.{realOf, ordinary, compact}
 use Rattle.pages.specs.Framed.{Framed, accessedAt, writtenAt, readByte, writeByte}
 use Rattle.code.specs.declared.RrFields.{RrFields}
 use Rattle.code.specs.declared.RxFields.{RxFields}
@@ -40,8 +40,8 @@ use Rattle.slips.specs.Row.{Row, row}
 -- the definitions that the tables of machines compute
 unfoldable pub computes : Unit {0}
 unfolding signed kept overflows spread signCode compareSigned compareBits zeroCode maskCode signedResult carried logicOf combineOf
-    shiftedLeft shiftedRight bitW bitG bitU bitS bitE bitM bitH bitsX frame pageOf dispOf next base size real wordOf accessed written
-    tests.table tests.tests lookOf realOf ordinary plain accessedAt writtenAt readByte writeByte code.table code.actionOf interp run looks
+    shiftedLeft shiftedRight bitG bitU bitS bitE bitM bitH bitsX frame pageOf dispOf next base size real wordOf accessed written
+    tests.sixTests tests.tests lookOf realOf ordinary compact accessedAt writtenAt readByte writeByte code.table code.actionOf interp run looks
     gets puts moves compares loading storing halfword reg ahead part address chosen link lessOne branch rr taken rx fills spills indexSum
     comparand isHigh rs si ss act step proper stepOutcome runOutcome
 computes = tt

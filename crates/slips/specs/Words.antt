@@ -11,9 +11,9 @@ use Rattle.words.specs.declared.Alu.{Alu}
 use Rattle.words.specs.declared.Res.{Res}
 use Rattle.words.specs.declared.Alu.the-variants.{Complement, Add, Subtract, SubtractLogical, CompareLogical}
 use Rattle.words.specs.Pick.{pick, either}
-use Rattle.words.specs.Whole.{word, signed, kept, spread}
+use Rattle.words.specs.Whole.{wordTop, signed, kept, spread}
 use Rattle.words.specs.Codes.{signCode, compareSigned, maskCode}
-use Rattle.words.specs.Combine.{plain, carried, combineOf, shiftedLeft}
+use Rattle.words.specs.Combine.{resultOf, carried, combineOf, shiftedLeft}
 use Rattle.slips.specs.Row.{Row, row}
 
 -- a logical subtract that adds the complement alone
@@ -22,29 +22,29 @@ withoutOne a b = carried (a + (4294967295 - b))
 
 -- a signed result whose overflow is told by another test
 abbrev resultBy : Bool → ℤ → Res
-resultBy over z = record { value = kept word z; code = pick over 3 (signCode z); over = over }
+resultBy over z = record { value = kept wordTop z; code = pick over 3 (signCode z); over = over }
 
 -- an add whose first value that does not fit is taken for one that does
 abbrev oneLate : ℕ → ℕ → Res
 oneLate a b =
-    let z = signed word a +ℤ signed word b in
-    resultBy (either (ltZ z (negℤ (pos word))) (ltZ (pos word) z)) z
+    let z = signed wordTop a +ℤ signed wordTop b in
+    resultBy (either (ltZ z (negℤ (pos wordTop))) (ltZ (pos wordTop) z)) z
 
 -- a subtract by the manual's words (L3701): it overflows where the result's high-order numeric bit and the carry out of the sign disagree
 abbrev garbled : ℕ → ℕ → Res
 garbled a b =
     let sum = a + (4294967295 - b) + 1 in
-    resultBy (not (eqb (sum / 1073741824 % 2) (sum / 4294967296))) (signed word a -ℤ signed word b)
+    resultBy (not (eqb (sum / 1073741824 % 2) (sum / 4294967296))) (signed wordTop a -ℤ signed wordTop b)
 
 -- a complement whose code goes by the word that is kept
 abbrev bySign : ℕ → ℕ → Res
 bySign a b =
-    let v = kept word (negℤ (signed word b)) in
-    plain v (signCode (signed word v))
+    let v = kept wordTop (negℤ (signed wordTop b)) in
+    resultOf v (signCode (signed wordTop v))
 
 -- a logical compare that looks at signs
 abbrev signedCompare : ℕ → ℕ → Res
-signedCompare a b = plain a (compareSigned (signed word a) (signed word b))
+signedCompare a b = resultOf a (compareSigned (signed wordTop a) (signed wordTop b))
 
 -- a shift by the low five bits
 abbrev fiveBits : ℕ → ℕ → ℕ
