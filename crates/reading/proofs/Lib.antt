@@ -5,6 +5,7 @@ mod Names
 mod Lines
 mod Pairs
 mod Taking
+mod Order
 mod Walks
 mod Cases
 mod Only

@@ -10,12 +10,13 @@ use lib.Seq.{take-all, length-take-le, drop-drop}
 use borrow.Author.Tests.{le-ltb, lt-ltb, eq-eqb, ne-eqb}
 use Rattle.words.specs.Pick.{pick}
 use Rattle.reading.specs.Cut.{span, before, after, count}
-use Rattle.reading.specs.Line.{lineOf}
-use Rattle.reading.specs.Sheet.{Reading, bad, good, State, Next, off, on, takeLine, afterLine, readLines, readOnto}
-use Rattle.reading.specs.Within.{stateOf, stays, goes, stepped, asStepped}
+use Rattle.reading.specs.Line.{Line, lineOf}
+use Rattle.reading.specs.Sheet.{Reading, bad, good, badAt, readOnto}
+use Rattle.reading.specs.Within.{State, readLines, goesOn, stateAfter, stateOf, stays, goes, stepped, asStepped}
 use Rattle.reading.specs.declared.sheet.Progress.{Progress}
 use Rattle.reading.specs.declared.sheet.Step.{Step}
 use Rattle.reading.specs.declared.sheet.Step.the-variants.{Off, On}
+use Rattle.reading.proofs.Order.{lines-are}
 
 -- ---- marks that are counted
 pub span-within : (mark : ℕ) (bs : List ℕ) → span mark bs ≤ length bs
@@ -50,20 +51,22 @@ count-some mark (b ∷ bs) h = go (eqb b mark) h (count-some mark bs)
         rw e (unfold after in ih (omega arith))
 
 -- ---- one line more
-module _ (n : ℕ) (s : State) (x : Next) (go : State → Reading) where
-  stayed : (mem map regs : List ℕ) → stays mem map regs ≡ stepped s x → bad n mem map regs ≡ afterLine n s x go
-  stayed mem map regs e = by x e
+module _ (n : ℕ) (s : State) (l : Line) (go : Reading) where
+  stayed : (mem map regs : List ℕ) → stays mem map regs ≡ stepped s l → bad n mem map regs ≡ pick (goesOn l s) go (badAt n (s .held))
+  stayed mem map regs e = by (goesOn l s) e
     where
-      by : (y : Next) → stays mem map regs ≡ stepped s y → bad n mem map regs ≡ afterLine n s y go
-      by off f = cc
-      by (on t) f = absurd (let z : _≡_ {A = ℕ} 0 1 = cc in omega arith)
+      by : (t : Bool) → stays mem map regs ≡ pick t (goes (stateAfter l s)) (stays (s .held .mem) (s .held .map) (s .held .regs))
+          → bad n mem map regs ≡ pick t go (badAt n (s .held))
+      by true f = absurd (let z : _≡_ {A = ℕ} 0 1 = cc in omega arith)
+      by false f = cc
 
-  went : (t : State) → goes t ≡ stepped s x → afterLine n s x go ≡ go t
-  went t e = by x e
+  went : (u : State) → goes u ≡ stepped s l → (goesOn l s ≡ true) × (stateAfter l s ≡ u)
+  went u e = by (goesOn l s) e
     where
-      by : (y : Next) → goes t ≡ stepped s y → afterLine n s y go ≡ go t
-      by off f = absurd (let z : _≡_ {A = ℕ} 0 1 = cc in omega arith)
-      by (on u) f = cc
+      by : (t : Bool) → goes u ≡ pick t (goes (stateAfter l s)) (stays (s .held .mem) (s .held .map) (s .held .regs))
+          → (t ≡ true) × (stateAfter l s ≡ u)
+      by true f = (refl, cc)
+      by false f = absurd (let z : _≡_ {A = ℕ} 0 1 = cc in omega arith)
 
 module _ (whole : Reading) (s : List ℕ) (n at : ℕ) (p : Progress) (mem map regs pages named : List ℕ)
     (inv : whole ≡ readLines (count 10 (drop at s)) n (drop at s) (stateOf p mem map regs pages named)) where
@@ -108,23 +111,28 @@ module _ (whole : Reading) (s : List ℕ) (n at : ℕ) (p : Progress) (mem map r
       pub read-within : at + length line + 1 ≤ length s
       read-within = omega (arith, long, ended, length-drop at s)
 
-      step-is : whole ≡ afterLine n (stateOf p mem map regs pages named) (takeLine (lineOf line) (stateOf p mem map regs pages named)) (λ (t : State). readLines (count 10 (after 10 (drop at s))) (n + 1) (after 10 (drop at s)) t)
+      abbrev line-read : Line
+      line-read = lineOf line
+
+      abbrev state : State
+      state = stateOf p mem map regs pages named
+
+      step-is : whole ≡ pick (goesOn line-read state) (readLines (count 10 (after 10 (drop at s))) (n + 1) (after 10 (drop at s)) (stateAfter line-read state)) (badAt n (state .held))
       unfolding readLines
       step-is = rw (inv, count-some 10 (drop at s) ended, cut-is)
 
-      module _ (r : Step) (mem′ map′ regs′ pages′ named′ : List ℕ)
-          (took : asStepped r mem′ map′ regs′ pages′ named′ ≡ stepped (stateOf p mem map regs pages named) (takeLine (lineOf line) (stateOf p mem map regs pages named))) where
+      module _ (r : Step) (mem′ map′ regs′ pages′ named′ : List ℕ) (took : asStepped r mem′ map′ regs′ pages′ named′ ≡ stepped state line-read) where
         pub read-off : r ≡ Off → bad n mem′ map′ regs′ ≡ whole
-        read-off f = rw step-is (stayed n (stateOf p mem map regs pages named) (takeLine (lineOf line) (stateOf p mem map regs pages named)) _ mem′ map′ regs′ (rw f at took))
+        read-off f = rw step-is (stayed n state line-read _ mem′ map′ regs′ (rw f at took))
 
         pub read-turn : (q : Progress) → r ≡ On q
             → whole ≡ readLines (count 10 (drop (at + length line + 1) s)) (n + 1) (drop (at + length line + 1) s) (stateOf q mem′ map′ regs′ pages′ named′)
         unfolding after
         read-turn q f =
             let k : at + (span 10 (drop at s) + 1) ≡ at + length line + 1 = omega (arith, long) in
-            step-is
-            ∙ went n (stateOf p mem map regs pages named) (takeLine (lineOf line) (stateOf p mem map regs pages named)) _ _ (rw f at took)
-            ∙ rw (drop-drop (span 10 (drop at s) + 1) at s, k)
+            let g : (goesOn line-read state ≡ true) × (stateAfter line-read state ≡ stateOf q mem′ map′ regs′ pages′ named′) =
+            went n state line-read whole _ (rw f at took) in
+            step-is ∙ rw (g .0, g .1, drop-drop (span 10 (drop at s) + 1) at s, k)
 
 -- ---- a whole sheet
 module _ (mem map regs s : List ℕ) where
@@ -136,4 +144,4 @@ module _ (mem map regs s : List ℕ) where
       → x ≡ readLines (count 10 s) 1 s (stateOf (record { stage = 0; pc = 0; code = 0; mask = 0; budget = 0 }) mem map regs (replicate 512 0) (replicate 16 0))
       → x ≡ readOnto mem map regs s
   unfolding readOnto
-  read-all h x e = rw (le-ltb _ _ h) e
+  read-all h x e = e ∙ lines-are s _ ∙ rw (le-ltb _ _ h)
