@@ -16,7 +16,7 @@ use Rattle.reading.specs.Line.{Line, page, bytes, reg, start, run, wrong
 use Rattle.reading.specs.Order.{among, any, none, except, every, nearest, mayStand, complete}
 use Rattle.reading.specs.Setting.{Setting}
 use Rattle.reading.specs.Sheet.{Reading, bad, good, badAt, linesFrom, setBy, readBelow}
-use Rattle.reading.specs.Within.{State, goesOn, stateAfter, readLines}
+use Rattle.reading.specs.Within.{State, goesOn, stateAfter, Left, left, leftBad, readLines}
 use Rattle.reading.proofs.Numbers.{both-true}
 
 -- ---- the state is what the lines above say
@@ -175,21 +175,26 @@ held-after wrong s = refl
 
 -- ---- line by line
 -- one line more: `rest` is what the code makes of the lines below it
-module _ (above : List Line) (s : State) (k : Kept above s) (l : Line) (h : InRange l) (rest : Reading) (ls : List Line) where
-  one-more : (goesOn l s ≡ true → rest ≡ readBelow (l ∷ above) (stateAfter l s .held) ls)
-      → pick (goesOn l s) rest (badAt (length above + 1) (s .held)) ≡ readBelow above (s .held) (l ∷ ls)
-  unfolding readBelow
-  one-more ih = go (goesOn l s) refl
+module _ (above : List Line) (s : State) (k : Kept above s) (l : Line) (h : InRange l) (rest : Left) (ls : List Line) where
+  one-more : (goesOn l s ≡ true → rest .reading ≡ readBelow (l ∷ above) (stateAfter l s .held) ls)
+      → pick (goesOn l s) rest (leftBad (length above + 1) s) .reading ≡ readBelow above (s .held) (l ∷ ls)
+  one-more below = go (goesOn l s) refl
     where
       go : (t : Bool) → goesOn l s ≡ t
-          → pick (goesOn l s) rest (badAt (length above + 1) (s .held)) ≡ readBelow above (s .held) (l ∷ ls)
+          → pick (goesOn l s) rest (leftBad (length above + 1) s) .reading ≡ readBelow above (s .held) (l ∷ ls)
       go false e = unfold readBelow in rw (same-test above s k l h, e)
-      go true e = unfold readBelow in rw (same-test above s k l h, e) (ih e ∙ rw (held-after l s))
+      go true e = unfold readBelow in rw (same-test above s k l h, e) (below e ∙ rw (held-after l s))
 
 lines-tied : (k : ℕ) (text : List ℕ) (above : List Line) (s : State) → Kept above s
-    → readLines k (length above + 1) text s ≡ readBelow above (s .held) (linesFrom k text)
+    → readLines k (length above + 1) text s .reading ≡ readBelow above (s .held) (linesFrom k text)
 unfolding readLines readBelow linesFrom mayStand
-lines-tied zero [] above s h = rw (h .done)
+lines-tied zero [] above s h = last (eqb (s .stage) 4) (h .done)
+  where
+    last : (t : Bool) → complete above ≡ t
+        → pick t (left (good (s .held)) (s .pages) (s .named)) (leftBad (length above + 1) s) .reading
+        ≡ pick (complete above) (good (s .held)) (badAt (length above + 1) (s .held))
+    last true e = rw e
+    last false e = rw e
 lines-tied zero (b ∷ bs) above s h =
     let z : suc (length bs) ≡ 0 → ⊥ = λ e. omega arith in
     rw (ne-eqb (suc (length bs)) 0 z)
@@ -201,7 +206,7 @@ lines-tied (suc k) text above s h =
     (one-more above s h l r _ (linesFrom k (after 10 text)) (λ e. lines-tied k (after 10 text) (l ∷ above) (stateAfter l s) (kept-on above s h l r e)))
 
 pub lines-are : (text : List ℕ) (h : Setting)
-    → readLines (count 10 text) 1 text (record { stage = 0; pages = replicate 512 0; named = replicate 16 0; held = h })
+    → readLines (count 10 text) 1 text (record { stage = 0; pages = replicate 512 0; named = replicate 16 0; held = h }) .reading
     ≡ readBelow [] h (linesFrom (count 10 text) text)
 lines-are text h = lines-tied (count 10 text) text [] _ (record {
   pages = length-replicate {A = ℕ} 512 0;

@@ -79,22 +79,37 @@ stateAfter (start pc code mask) s =
 stateAfter (run budget) s = record { stage = 4; pages = s .pages; named = s .named; held = setBy (run budget) (s .held) }
 stateAfter wrong s = s
 
--- What a line leads to: one that is not taken leaves memory, page words and registers; one that is leads to a state
+-- What a line leads to: one that is not taken leaves every list as it was, one that is leads to a state
 pub data Stepped : Type 0 where
-  stays : List ℕ → List ℕ → List ℕ → Stepped
+  stays : List ℕ → List ℕ → List ℕ → List ℕ → List ℕ → Stepped
   goes : State → Stepped
 
+abbrev pub stayed : State → Stepped
+stayed s = stays (s .held .mem) (s .held .map) (s .held .regs) (s .pages) (s .named)
+
 abbrev pub stepped : State → Line → Stepped
-stepped s l = pick (goesOn l s) (goes (stateAfter l s)) (stays (s .held .mem) (s .held .map) (s .held .regs))
+stepped s l = pick (goesOn l s) (goes (stateAfter l s)) (stayed s)
 
 abbrev pub asStepped : Step → List ℕ → List ℕ → List ℕ → List ℕ → List ℕ → Stepped
-asStepped Off mem map regs pages named = stays mem map regs
+asStepped Off mem map regs pages named = stays mem map regs pages named
 asStepped (On p) mem map regs pages named = goes (stateOf p mem map regs pages named)
 
+-- what the lines come to, and the flags as they leave them
+pub record Left : Type 0 where
+  pub reading : Reading
+  pub pages : List ℕ
+  pub named : List ℕ
+
+abbrev pub left : Reading → List ℕ → List ℕ → Left
+left r pages named = record { reading = r; pages = pages; named = named }
+
+abbrev pub leftBad : ℕ → State → Left
+leftBad n s = left (badAt n (s .held)) (s .pages) (s .named)
+
 -- the lines from number n on, as many as there are line ends
-unfoldable pub readLines : ℕ → ℕ → List ℕ → State → Reading
+unfoldable pub readLines : ℕ → ℕ → List ℕ → State → Left
 readLines zero n text s =
-    pick (both (eqb (length text) 0) (eqb (s .stage) 4)) (good (s .held)) (badAt n (s .held))
+    pick (both (eqb (length text) 0) (eqb (s .stage) 4)) (left (good (s .held)) (s .pages) (s .named)) (leftBad n s)
 readLines (suc k) n text s =
     let l = lineOf (before 10 text) in
-    pick (goesOn l s) (readLines k (n + 1) (after 10 text) (stateAfter l s)) (badAt n (s .held))
+    pick (goesOn l s) (readLines k (n + 1) (after 10 text) (stateAfter l s)) (leftBad n s)
