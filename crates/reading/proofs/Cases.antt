@@ -8,7 +8,7 @@ use lib.ListN.{getD, take, drop, replicate}
 use Rattle.reading.specs.Cut.{span, before, after, count}
 use Rattle.reading.specs.Digits.{digitOf, allDigits, valueAfter, noLeadingZero, isDecimal, isHex, isBytes, pairsOf}
 use Rattle.reading.specs.Line.{same, readEntry, readBytes, readStart, readRun, lineOf}
-use Rattle.reading.specs.Order.{every, nearest, mayStand}
+use Rattle.reading.specs.Order.{each, nearest, mayStand}
 use Rattle.reading.specs.Sheet.{Reading, bad, good, linesFrom, setBy, readBelow, readOnto, readingOf}
 
 -- a sheet, and 0 if it is good or one more than the number of its bad line
@@ -95,7 +95,7 @@ failing (c ∷ cs) = skip (eqb (answered (readingOf (c .sheet))) (c .expected)) 
     skip false s rest = s ∷ rest
 
 unfoldable computes : Unit {0}
-unfolding readingOf readOnto readBelow linesFrom setBy mayStand every nearest lineOf readEntry readBytes readStart readRun same isDecimal isHex isBytes noLeadingZero allDigits valueAfter digitOf pairsOf span before after count
+unfolding readingOf readOnto readBelow linesFrom setBy mayStand each nearest lineOf readEntry readBytes readStart readRun same isDecimal isHex isBytes noLeadingZero allDigits valueAfter digitOf pairsOf span before after count
 computes = tt
 
 all-right : failing table ≡ []

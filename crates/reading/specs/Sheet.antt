@@ -8,7 +8,7 @@ use Rattle.words.specs.Pick.{pick}
 use Rattle.reading.specs.Cut.{before, after, count}
 use Rattle.reading.specs.Setting.{Setting, withMem, withMap, withRegs, withStart, withBudget}
 use Rattle.reading.specs.Line.{Line, page, bytes, reg, start, run, wrong, lineOf}
-use Rattle.reading.specs.Order.{mayStand, complete}
+use Rattle.reading.specs.Order.{mayStand, mayEnd}
 
 -- A bad sheet: the number of its first bad line, and memory, page words and registers as the lines before it left them.
 -- Or what a good one sets.
@@ -40,7 +40,7 @@ setBy wrong h = h
 -- The lines below those above, which set h. The first line that may not stand where it stands is the bad one, and a missing line
 -- counts as the line after the last. Lines are counted from 1.
 unfoldable pub readBelow : List Line → Setting → List Line → Reading
-readBelow above h [] = pick (complete above) (good h) (badAt (length above + 1) h)
+readBelow above h [] = pick (mayEnd above) (good h) (badAt (length above + 1) h)
 readBelow above h (l ∷ ls) =
     let on = readBelow (l ∷ above) (setBy l h) ls in
     pick (mayStand l above) on (badAt (length above + 1) h)

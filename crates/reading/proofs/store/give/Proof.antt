@@ -1,4 +1,4 @@
-use Rattle.reading.proofs.Pairs.{give-again, give-new, give-past}
+use Rattle.reading.proofs.Stores.{give-again, give-new, give-past}
 use borrow.Author.Needs.{needs}
 use Rattle.reading.proofs.store.give.Statement.{statement}
 use Rattle.reading.proofs.store.give.Tie as tie

@@ -1,10 +1,9 @@
--- A sheet line by line.
+-- A sheet read line by line, as the loop of `read_lines` reads it.
 use mathlib.Core.Path.{_≡_, refl, ap, _∙_}
 use mathlib.Core.Bool.{Bool, true, false}
-use mathlib.Core.List.{List, [], _∷_}
-use Prim.Native.Nat.{ℕ, suc, _+_, _-_, _≤_, _<_}
+use mathlib.Core.List.{List}
+use Prim.Native.Nat.{ℕ, _+_, _-_, _≤_, _<_}
 use native.Mathlib.Omega.{arith}
-use lib.Dec.{eqb}
 use lib.ListN.{length, replicate, take, drop, drop-of-length-le, length-drop}
 use lib.Seq.{take-all, length-take-le, drop-drop}
 use borrow.Author.Tests.{le-ltb, lt-ltb, eq-eqb, ne-eqb}
@@ -16,39 +15,8 @@ use Rattle.reading.specs.Within.{State, stateOf, goesOn, stateAfter, sta
 use Rattle.reading.specs.declared.sheet.Progress.{Progress}
 use Rattle.reading.specs.declared.sheet.Step.{Step}
 use Rattle.reading.specs.declared.sheet.Step.the-variants.{Off, On}
+use Rattle.reading.proofs.Cuts.{span-within, count-none, count-some}
 use Rattle.reading.proofs.Order.{lines-are}
-
--- ---- marks that are counted
-pub span-within : (mark : ℕ) (bs : List ℕ) → span mark bs ≤ length bs
-unfolding span
-span-within mark [] = omega arith
-span-within mark (b ∷ bs) = go (eqb b mark) (span-within mark bs)
-  where
-    go : (t : Bool) → span mark bs ≤ length bs → pick t 0 (suc (span mark bs)) ≤ suc (length bs)
-    go true h = omega arith
-    go false h = omega arith
-
-count-none : (mark : ℕ) (bs : List ℕ) → length bs ≤ span mark bs → count mark bs ≡ 0
-unfolding span count
-count-none mark [] h = refl
-count-none mark (b ∷ bs) h = go (eqb b mark) h (count-none mark bs)
-  where
-    go : (t : Bool) → suc (length bs) ≤ pick t 0 (suc (span mark bs)) → (length bs ≤ span mark bs → count mark bs ≡ 0)
-        → pick t (suc (count mark bs)) (count mark bs) ≡ 0
-    go true k ih = absurd (omega arith)
-    go false k ih = ih (omega arith)
-
-count-some : (mark : ℕ) (bs : List ℕ) → span mark bs < length bs → count mark bs ≡ suc (count mark (after mark bs))
-unfolding span count after
-count-some mark [] h = absurd (omega arith)
-count-some mark (b ∷ bs) h = go (eqb b mark) h (count-some mark bs)
-  where
-    go : (t : Bool) → pick t 0 (suc (span mark bs)) < suc (length bs) → (span mark bs < length bs → count mark bs ≡ suc (count mark (after mark bs)))
-        → pick t (suc (count mark bs)) (count mark bs) ≡ suc (count mark (drop (pick t 0 (suc (span mark bs)) + 1) (b ∷ bs)))
-    go true k ih = refl
-    go false k ih =
-        let e : suc (span mark bs) + 1 ≡ suc (span mark bs + 1) = omega arith in
-        rw e (unfold after in ih (omega arith))
 
 -- ---- one line more
 module _ (n : ℕ) (s : State) (l : Line) (go : Left) where

@@ -1,4 +1,4 @@
--- What a line does, by its kind.
+-- What a line does to the state, by its kind.
 use mathlib.Core.Path.{_≡_, subst, _∙_}
 use mathlib.Core.Bool.{Bool, true, false}
 use mathlib.Core.List.{List}

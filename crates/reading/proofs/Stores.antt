@@ -1,4 +1,4 @@
--- Bytes stored pair by pair.
+-- What is stored: bytes pair by pair, and the flag of a number that a line gives.
 use mathlib.Core.Path.{_≡_, sym, _∙_}
 use mathlib.Core.Bool.{Bool, true, false}
 use mathlib.Core.List.{List, [], _∷_}
@@ -12,7 +12,8 @@ use lib.Seq.{drop-cons, sets, set-out}
 use borrow.Author.Tests.{ltb-true, ne-eqb}
 use Rattle.words.specs.Pick.{pick}
 use Rattle.reading.specs.Digits.{digitOf, allDigits, pairsOf}
-use Rattle.reading.proofs.Numbers.{both-true, digits-at}
+use Rattle.reading.proofs.Numbers.{digits-at}
+use Rattle.reading.proofs.Tests.{both-true}
 
 module _ (s : List ℕ) (i : ℕ) (a : allDigits 16 (drop i s) ≡ true) (h : i < length s) where
   halves : (ltb (digitOf (getD s i 0)) 16 ≡ true) × (allDigits 16 (drop (i + 1) s) ≡ true)
