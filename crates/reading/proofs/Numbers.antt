@@ -39,7 +39,8 @@ module _ (b : ℕ) where
   digit-letter h k =
       let l : 48 ≤ b = omega arith in
       let m : 57 < b = omega arith in
-      rw (le-leb 48 b l, lt-leb b 57 m, le-leb 65 b h, le-leb b 70 k)
+      let n : b - 55 ≡ b - 65 + 10 = omega arith in
+      rw (le-leb 48 b l, lt-leb b 57 m, le-leb 65 b h, le-leb b 70 k) n
 
   pub digit-over : 70 < b → 16 ≡ digitOf b
   unfolding digitOf

@@ -5,7 +5,8 @@ use Prim.Native.Nat.{ℕ, _+_, _/_}
 use lib.Dec.{eqb, leb}
 use lib.ListN.{length}
 use Rattle.words.specs.Pick.{pick, both}
-use Rattle.reading.specs.Cut.{before, after}
+use Rattle.words.specs.Ascii.{ascii}
+use Rattle.reading.specs.Cut.{tab, before, after}
 use Rattle.reading.specs.Digits.{valueOf, isDecimal, isHex, isBytes, pairsOf}
 
 -- the number and word of a page; an address and bytes; the number and word of a register; counter, code and mask; a budget
@@ -26,10 +27,10 @@ same (a ∷ cs) (b ∷ bs) = both (eqb a b) (same cs bs)
 
 -- a text's first field, and what stands after the tab behind it
 abbrev pub first : List ℕ → List ℕ
-first text = before 9 text
+first text = before tab text
 
 abbrev pub others : List ℕ → List ℕ
-others text = after 9 text
+others text = after tab text
 
 -- a number from 0 to `last`, and a word of k hexadecimal digits
 unfoldable pub readEntry : (ℕ → ℕ → Line) → ℕ → ℕ → List ℕ → Line
@@ -68,21 +69,21 @@ readStart text =
 unfoldable pub readRun : List ℕ → Line
 readRun text = pick (isDecimal 65535 text) (run (valueOf 10 text)) wrong
 
--- the names of the kinds, letter by letter
+-- the names of the kinds
 abbrev pub PAGE : List ℕ
-PAGE = 80 ∷ 65 ∷ 71 ∷ 69 ∷ []
+PAGE = ascii "PAGE"
 
 abbrev pub BYTES : List ℕ
-BYTES = 66 ∷ 89 ∷ 84 ∷ 69 ∷ 83 ∷ []
+BYTES = ascii "BYTES"
 
 abbrev pub REG : List ℕ
-REG = 82 ∷ 69 ∷ 71 ∷ []
+REG = ascii "REG"
 
 abbrev pub START : List ℕ
-START = 83 ∷ 84 ∷ 65 ∷ 82 ∷ 84 ∷ []
+START = ascii "START"
 
 abbrev pub RUN : List ℕ
-RUN = 82 ∷ 85 ∷ 78 ∷ []
+RUN = ascii "RUN"
 
 -- A line's first field is the name of its kind.
 unfoldable pub lineOf : List ℕ → Line

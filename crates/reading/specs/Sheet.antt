@@ -5,7 +5,7 @@ use lib.Dec.{ltb}
 use lib.ListN.{length, set, replicate}
 use lib.Seq.{sets}
 use Rattle.words.specs.Pick.{pick}
-use Rattle.reading.specs.Cut.{before, after, count}
+use Rattle.reading.specs.Cut.{lineEnd, before, after, count}
 use Rattle.reading.specs.Setting.{Setting, withMem, withMap, withRegs, withStart, withBudget}
 use Rattle.reading.specs.Line.{Line, page, bytes, reg, start, run, wrong, lineOf}
 use Rattle.reading.specs.Order.{mayStand, mayEnd}
@@ -23,10 +23,10 @@ badAt n h = bad n (h .mem) (h .map) (h .regs)
 unfoldable pub linesFrom : ℕ → List ℕ → List Line
 linesFrom zero [] = []
 linesFrom zero (b ∷ bs) = wrong ∷ []
-linesFrom (suc k) text = lineOf (before 10 text) ∷ linesFrom k (after 10 text)
+linesFrom (suc k) text = lineOf (before lineEnd text) ∷ linesFrom k (after lineEnd text)
 
 abbrev pub linesOf : List ℕ → List Line
-linesOf sheet = linesFrom (count 10 sheet) sheet
+linesOf sheet = linesFrom (count lineEnd sheet) sheet
 
 -- what a line sets; of two BYTES lines that set a byte the later wins
 unfoldable pub setBy : Line → Setting → Setting
