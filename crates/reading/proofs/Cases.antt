@@ -13,13 +13,16 @@ use Rattle.reading.specs.Line.{same, readEntry, readBytes, readStart, re
 use Rattle.reading.specs.Order.{each, nearest, mayStand}
 use Rattle.reading.specs.Sheet.{Reading, bad, good, linesFrom, setBy, readBelow, readOnto, readingOf}
 
--- a sheet, and 0 if it is good or one more than the number of its bad line
+-- a sheet and what it comes to: 0 where it is good, or one more than the number of its bad line
 pub record Case : Type 0 where
   pub sheet : List ℕ
   pub expected : ℕ
 
-abbrev case : String → ℕ → Case
-case sheet expected = record { sheet = ascii sheet; expected = expected }
+abbrev fine : String → Case
+fine sheet = record { sheet = ascii sheet; expected = 0 }
+
+abbrev badLine : ℕ → String → Case
+badLine n sheet = record { sheet = ascii sheet; expected = suc n }
 
 abbrev answered : Reading → ℕ
 answered (bad n mem map regs) = suc n
@@ -28,63 +31,75 @@ answered (good s) = 0
 unfoldable pub table : List Case
 table =
     -- whole case
-    case "PAGE\t10\t3003\nBYTES\t12288\t41100005\nSTART\t00A000\t0\t0\nRUN\t1\n" 0
+    fine "PAGE\t10\t3003\nBYTES\t12288\t41100005\nSTART\t00A000\t0\t0\nRUN\t1\n"
     ∷  -- no line at all
-    case "" 2
+    badLine 1 ""
     ∷  -- an empty line
-    case "\n" 2
+    badLine 1 "\n"
     ∷  -- no line end behind the last line
-    case "START\t00A000\t0\t0\nRUN\t1" 3
+    badLine 2 "START\t00A000\t0\t0\nRUN\t1"
     ∷  -- RUN missing
-    case "START\t00A000\t0\t0\n" 3
+    badLine 2 "START\t00A000\t0\t0\n"
     ∷  -- START missing
-    case "RUN\t1\n" 2
+    badLine 1 "RUN\t1\n"
     ∷  -- a line behind RUN
-    case "START\t00A000\t0\t0\nRUN\t1\n\n" 4
+    badLine 3 "START\t00A000\t0\t0\nRUN\t1\n\n"
     ∷  -- REG before BYTES
-    case "REG\t1\t00000005\nBYTES\t0\t00\nSTART\t00A000\t0\t0\nRUN\t1\n" 3
+    badLine 2 "REG\t1\t00000005\nBYTES\t0\t00\nSTART\t00A000\t0\t0\nRUN\t1\n"
     ∷  -- PAGE after BYTES
-    case "BYTES\t0\t00\nPAGE\t1\t3003\nSTART\t00A000\t0\t0\nRUN\t1\n" 3
+    badLine 2 "BYTES\t0\t00\nPAGE\t1\t3003\nSTART\t00A000\t0\t0\nRUN\t1\n"
     ∷  -- a page of word 0 twice
-    case "PAGE\t1\t0000\nPAGE\t1\t0000\nSTART\t00A000\t0\t0\nRUN\t1\n" 3
+    badLine 2 "PAGE\t1\t0000\nPAGE\t1\t0000\nSTART\t00A000\t0\t0\nRUN\t1\n"
     ∷  -- a register twice
-    case "REG\t15\t00000000\nREG\t15\t00000000\nSTART\t00A000\t0\t0\nRUN\t1\n" 3
+    badLine 2 "REG\t15\t00000000\nREG\t15\t00000000\nSTART\t00A000\t0\t0\nRUN\t1\n"
     ∷  -- page 511
-    case "PAGE\t511\tFFFF\nSTART\t00A000\t0\t0\nRUN\t1\n" 0
+    fine "PAGE\t511\tFFFF\nSTART\t00A000\t0\t0\nRUN\t1\n"
     ∷  -- page 512
-    case "PAGE\t512\tFFFF\nSTART\t00A000\t0\t0\nRUN\t1\n" 2
+    badLine 1 "PAGE\t512\tFFFF\nSTART\t00A000\t0\t0\nRUN\t1\n"
     ∷  -- register 16
-    case "REG\t16\t00000000\nSTART\t00A000\t0\t0\nRUN\t1\n" 2
+    badLine 1 "REG\t16\t00000000\nSTART\t00A000\t0\t0\nRUN\t1\n"
     ∷  -- a leading zero
-    case "PAGE\t01\t3003\nSTART\t00A000\t0\t0\nRUN\t1\n" 2
+    badLine 1 "PAGE\t01\t3003\nSTART\t00A000\t0\t0\nRUN\t1\n"
     ∷  -- lower case
-    case "PAGE\t1\t300a\nSTART\t00A000\t0\t0\nRUN\t1\n" 2
+    badLine 1 "PAGE\t1\t300a\nSTART\t00A000\t0\t0\nRUN\t1\n"
     ∷  -- three digits for a word
-    case "PAGE\t1\t300\nSTART\t00A000\t0\t0\nRUN\t1\n" 2
+    badLine 1 "PAGE\t1\t300\nSTART\t00A000\t0\t0\nRUN\t1\n"
     ∷  -- an odd digit
-    case "BYTES\t0\t000\nSTART\t00A000\t0\t0\nRUN\t1\n" 2
+    badLine 1 "BYTES\t0\t000\nSTART\t00A000\t0\t0\nRUN\t1\n"
     ∷  -- no byte
-    case "BYTES\t0\t\nSTART\t00A000\t0\t0\nRUN\t1\n" 2
+    badLine 1 "BYTES\t0\t\nSTART\t00A000\t0\t0\nRUN\t1\n"
     ∷  -- 32 bytes
-    case "BYTES\t65504\tA5A5A5A5A5A5A5A5A5A5A5A5A5A5A5A5A5A5A5A5A5A5A5A5A5A5A5A5A5A5A5A5\nSTART\t00A000\t0\t0\nRUN\t1\n" 0
+    fine "BYTES\t65504\tA5A5A5A5A5A5A5A5A5A5A5A5A5A5A5A5A5A5A5A5A5A5A5A5A5A5A5A5A5A5A5A5\nSTART\t00A000\t0\t0\nRUN\t1\n"
     ∷  -- 33 bytes
-    case "BYTES\t0\tA5A5A5A5A5A5A5A5A5A5A5A5A5A5A5A5A5A5A5A5A5A5A5A5A5A5A5A5A5A5A5A5A5\nSTART\t00A000\t0\t0\nRUN\t1\n" 2
+    badLine 1 "BYTES\t0\tA5A5A5A5A5A5A5A5A5A5A5A5A5A5A5A5A5A5A5A5A5A5A5A5A5A5A5A5A5A5A5A5A5\nSTART\t00A000\t0\t0\nRUN\t1\n"
     ∷  -- a byte past memory
-    case "BYTES\t65505\tA5A5A5A5A5A5A5A5A5A5A5A5A5A5A5A5A5A5A5A5A5A5A5A5A5A5A5A5A5A5A5A5\nSTART\t00A000\t0\t0\nRUN\t1\n" 2
+    badLine 1 "BYTES\t65505\tA5A5A5A5A5A5A5A5A5A5A5A5A5A5A5A5A5A5A5A5A5A5A5A5A5A5A5A5A5A5A5A5\nSTART\t00A000\t0\t0\nRUN\t1\n"
     ∷  -- two tabs
-    case "RUN\t\t1\n" 2
+    badLine 1 "RUN\t\t1\n"
     ∷  -- a field too many
-    case "START\t00A000\t0\t0\t\nRUN\t1\n" 2
+    badLine 1 "START\t00A000\t0\t0\t\nRUN\t1\n"
     ∷  -- code 4
-    case "START\t00A000\t4\t0\nRUN\t1\n" 2
+    badLine 1 "START\t00A000\t4\t0\nRUN\t1\n"
     ∷  -- mask 16
-    case "START\t00A000\t0\t16\nRUN\t1\n" 2
+    badLine 1 "START\t00A000\t0\t16\nRUN\t1\n"
     ∷  -- budget 65535
-    case "START\tFFFFFF\t3\t15\nRUN\t65535\n" 0
+    fine "START\tFFFFFF\t3\t15\nRUN\t65535\n"
     ∷  -- budget 65536
-    case "START\tFFFFFF\t3\t15\nRUN\t65536\n" 3
+    badLine 2 "START\tFFFFFF\t3\t15\nRUN\t65536\n"
     ∷  -- two START lines
-    case "START\t00A000\t0\t0\nSTART\t00A000\t0\t0\nRUN\t1\n" 3
+    badLine 2 "START\t00A000\t0\t0\nSTART\t00A000\t0\t0\nRUN\t1\n"
+    ∷  -- BYTES after REG, at the bottom of a good beginning
+    badLine 4 "PAGE\t1\t3003\nBYTES\t0\t00\nREG\t1\t00000005\nBYTES\t0\t00\nSTART\t00A000\t0\t0\nRUN\t1\n"
+    ∷  -- REG after START
+    badLine 2 "START\t00A000\t0\t0\nREG\t1\t00000005\nRUN\t1\n"
+    ∷  -- two RUN lines
+    badLine 3 "START\t00A000\t0\t0\nRUN\t1\nRUN\t1\n"
+    ∷  -- bytes without a line end behind RUN
+    badLine 3 "START\t00A000\t0\t0\nRUN\t1\nR"
+    ∷  -- several of each kind, in any order of their numbers
+    fine "PAGE\t2\t3003\nPAGE\t1\t3003\nBYTES\t1\t00\nBYTES\t0\t0000\nREG\t2\t00000005\nREG\t1\t00000005\nSTART\t00A000\t0\t0\nRUN\t1\n"
+    ∷  -- START and RUN missing
+    badLine 2 "PAGE\t1\t3003\n"
     ∷ []
 
 -- the sheets whose answer is another than the table says
@@ -110,7 +125,7 @@ shown (bad n mem map regs) = []
 shown (good s) =
     s .pc ∷ s .code ∷ s .mask ∷ s .budget ∷ getD (s .map) 10 0 ∷ take 6 (drop 12287 (s .mem))
 
-whole-case : shown (readingOf (getD table 0 (case "" 0) .sheet)) ≡ 0x00A000 ∷ 0 ∷ 0 ∷ 1 ∷ 0x3003 ∷ 0 ∷ 0x41 ∷ 0x10 ∷ 0x00 ∷ 0x05 ∷ 0 ∷ []
+whole-case : shown (readingOf (getD table 0 (fine "") .sheet)) ≡ 0x00A000 ∷ 0 ∷ 0 ∷ 1 ∷ 0x3003 ∷ 0 ∷ 0x41 ∷ 0x10 ∷ 0x00 ∷ 0x05 ∷ 0 ∷ []
 unfolding computes shown table
 whole-case = refl
 
