@@ -21,8 +21,8 @@ pub record Case : Type 0 where
 abbrev fine : String → Case
 fine sheet = record { sheet = ascii sheet; expected = 0 }
 
-abbrev badLine : ℕ → String → Case
-badLine n sheet = record { sheet = ascii sheet; expected = suc n }
+abbrev faulty : ℕ → String → Case
+faulty n sheet = record { sheet = ascii sheet; expected = suc n }
 
 abbrev answered : Reading → ℕ
 answered (bad n mem map regs) = suc n
@@ -33,73 +33,73 @@ table =
     -- whole case
     fine "PAGE\t10\t3003\nBYTES\t12288\t41100005\nSTART\t00A000\t0\t0\nRUN\t1\n"
     ∷  -- no line at all
-    badLine 1 ""
+    faulty 1 ""
     ∷  -- an empty line
-    badLine 1 "\n"
+    faulty 1 "\n"
     ∷  -- no line end behind the last line
-    badLine 2 "START\t00A000\t0\t0\nRUN\t1"
+    faulty 2 "START\t00A000\t0\t0\nRUN\t1"
     ∷  -- RUN missing
-    badLine 2 "START\t00A000\t0\t0\n"
+    faulty 2 "START\t00A000\t0\t0\n"
     ∷  -- START missing
-    badLine 1 "RUN\t1\n"
+    faulty 1 "RUN\t1\n"
     ∷  -- a line behind RUN
-    badLine 3 "START\t00A000\t0\t0\nRUN\t1\n\n"
+    faulty 3 "START\t00A000\t0\t0\nRUN\t1\n\n"
     ∷  -- REG before BYTES
-    badLine 2 "REG\t1\t00000005\nBYTES\t0\t00\nSTART\t00A000\t0\t0\nRUN\t1\n"
+    faulty 2 "REG\t1\t00000005\nBYTES\t0\t00\nSTART\t00A000\t0\t0\nRUN\t1\n"
     ∷  -- PAGE after BYTES
-    badLine 2 "BYTES\t0\t00\nPAGE\t1\t3003\nSTART\t00A000\t0\t0\nRUN\t1\n"
+    faulty 2 "BYTES\t0\t00\nPAGE\t1\t3003\nSTART\t00A000\t0\t0\nRUN\t1\n"
     ∷  -- a page of word 0 twice
-    badLine 2 "PAGE\t1\t0000\nPAGE\t1\t0000\nSTART\t00A000\t0\t0\nRUN\t1\n"
+    faulty 2 "PAGE\t1\t0000\nPAGE\t1\t0000\nSTART\t00A000\t0\t0\nRUN\t1\n"
     ∷  -- a register twice
-    badLine 2 "REG\t15\t00000000\nREG\t15\t00000000\nSTART\t00A000\t0\t0\nRUN\t1\n"
+    faulty 2 "REG\t15\t00000000\nREG\t15\t00000000\nSTART\t00A000\t0\t0\nRUN\t1\n"
     ∷  -- page 511
     fine "PAGE\t511\tFFFF\nSTART\t00A000\t0\t0\nRUN\t1\n"
     ∷  -- page 512
-    badLine 1 "PAGE\t512\tFFFF\nSTART\t00A000\t0\t0\nRUN\t1\n"
+    faulty 1 "PAGE\t512\tFFFF\nSTART\t00A000\t0\t0\nRUN\t1\n"
     ∷  -- register 16
-    badLine 1 "REG\t16\t00000000\nSTART\t00A000\t0\t0\nRUN\t1\n"
+    faulty 1 "REG\t16\t00000000\nSTART\t00A000\t0\t0\nRUN\t1\n"
     ∷  -- a leading zero
-    badLine 1 "PAGE\t01\t3003\nSTART\t00A000\t0\t0\nRUN\t1\n"
+    faulty 1 "PAGE\t01\t3003\nSTART\t00A000\t0\t0\nRUN\t1\n"
     ∷  -- lower case
-    badLine 1 "PAGE\t1\t300a\nSTART\t00A000\t0\t0\nRUN\t1\n"
+    faulty 1 "PAGE\t1\t300a\nSTART\t00A000\t0\t0\nRUN\t1\n"
     ∷  -- three digits for a word
-    badLine 1 "PAGE\t1\t300\nSTART\t00A000\t0\t0\nRUN\t1\n"
+    faulty 1 "PAGE\t1\t300\nSTART\t00A000\t0\t0\nRUN\t1\n"
     ∷  -- an odd digit
-    badLine 1 "BYTES\t0\t000\nSTART\t00A000\t0\t0\nRUN\t1\n"
+    faulty 1 "BYTES\t0\t000\nSTART\t00A000\t0\t0\nRUN\t1\n"
     ∷  -- no byte
-    badLine 1 "BYTES\t0\t\nSTART\t00A000\t0\t0\nRUN\t1\n"
+    faulty 1 "BYTES\t0\t\nSTART\t00A000\t0\t0\nRUN\t1\n"
     ∷  -- 32 bytes
     fine "BYTES\t65504\tA5A5A5A5A5A5A5A5A5A5A5A5A5A5A5A5A5A5A5A5A5A5A5A5A5A5A5A5A5A5A5A5\nSTART\t00A000\t0\t0\nRUN\t1\n"
     ∷  -- 33 bytes
-    badLine 1 "BYTES\t0\tA5A5A5A5A5A5A5A5A5A5A5A5A5A5A5A5A5A5A5A5A5A5A5A5A5A5A5A5A5A5A5A5A5\nSTART\t00A000\t0\t0\nRUN\t1\n"
+    faulty 1 "BYTES\t0\tA5A5A5A5A5A5A5A5A5A5A5A5A5A5A5A5A5A5A5A5A5A5A5A5A5A5A5A5A5A5A5A5A5\nSTART\t00A000\t0\t0\nRUN\t1\n"
     ∷  -- a byte past memory
-    badLine 1 "BYTES\t65505\tA5A5A5A5A5A5A5A5A5A5A5A5A5A5A5A5A5A5A5A5A5A5A5A5A5A5A5A5A5A5A5A5\nSTART\t00A000\t0\t0\nRUN\t1\n"
+    faulty 1 "BYTES\t65505\tA5A5A5A5A5A5A5A5A5A5A5A5A5A5A5A5A5A5A5A5A5A5A5A5A5A5A5A5A5A5A5A5\nSTART\t00A000\t0\t0\nRUN\t1\n"
     ∷  -- two tabs
-    badLine 1 "RUN\t\t1\n"
+    faulty 1 "RUN\t\t1\n"
     ∷  -- a field too many
-    badLine 1 "START\t00A000\t0\t0\t\nRUN\t1\n"
+    faulty 1 "START\t00A000\t0\t0\t\nRUN\t1\n"
     ∷  -- code 4
-    badLine 1 "START\t00A000\t4\t0\nRUN\t1\n"
+    faulty 1 "START\t00A000\t4\t0\nRUN\t1\n"
     ∷  -- mask 16
-    badLine 1 "START\t00A000\t0\t16\nRUN\t1\n"
+    faulty 1 "START\t00A000\t0\t16\nRUN\t1\n"
     ∷  -- budget 65535
     fine "START\tFFFFFF\t3\t15\nRUN\t65535\n"
     ∷  -- budget 65536
-    badLine 2 "START\tFFFFFF\t3\t15\nRUN\t65536\n"
+    faulty 2 "START\tFFFFFF\t3\t15\nRUN\t65536\n"
     ∷  -- two START lines
-    badLine 2 "START\t00A000\t0\t0\nSTART\t00A000\t0\t0\nRUN\t1\n"
+    faulty 2 "START\t00A000\t0\t0\nSTART\t00A000\t0\t0\nRUN\t1\n"
     ∷  -- BYTES after REG, at the bottom of a good beginning
-    badLine 4 "PAGE\t1\t3003\nBYTES\t0\t00\nREG\t1\t00000005\nBYTES\t0\t00\nSTART\t00A000\t0\t0\nRUN\t1\n"
+    faulty 4 "PAGE\t1\t3003\nBYTES\t0\t00\nREG\t1\t00000005\nBYTES\t0\t00\nSTART\t00A000\t0\t0\nRUN\t1\n"
     ∷  -- REG after START
-    badLine 2 "START\t00A000\t0\t0\nREG\t1\t00000005\nRUN\t1\n"
+    faulty 2 "START\t00A000\t0\t0\nREG\t1\t00000005\nRUN\t1\n"
     ∷  -- two RUN lines
-    badLine 3 "START\t00A000\t0\t0\nRUN\t1\nRUN\t1\n"
+    faulty 3 "START\t00A000\t0\t0\nRUN\t1\nRUN\t1\n"
     ∷  -- bytes without a line end behind RUN
-    badLine 3 "START\t00A000\t0\t0\nRUN\t1\nR"
+    faulty 3 "START\t00A000\t0\t0\nRUN\t1\nR"
     ∷  -- several of each kind, in any order of their numbers
     fine "PAGE\t2\t3003\nPAGE\t1\t3003\nBYTES\t1\t00\nBYTES\t0\t0000\nREG\t2\t00000005\nREG\t1\t00000005\nSTART\t00A000\t0\t0\nRUN\t1\n"
     ∷  -- START and RUN missing
-    badLine 2 "PAGE\t1\t3003\n"
+    faulty 2 "PAGE\t1\t3003\n"
     ∷ []
 
 -- the sheets whose answer is another than the table says

@@ -1,4 +1,5 @@
--- How the functions behind `read_sheet` hand on to each other what they read. No contract that others see cites this file.
+-- Working definitions: how the functions behind `read_sheet` hand on to each other what they read, and the state that they keep of it.
+-- No contract that others see cites this file.
 use mathlib.Core.Path.{_≡_}
 use mathlib.Core.Bool.{Bool, true, false}
 use mathlib.Core.List.{List}
