@@ -3,7 +3,7 @@ use mathlib.Core.Path.{_≡_, refl}
 use mathlib.Core.List.{List, [], _∷_, map}
 use Prim.Native.Nat.{ℕ}
 use lib.ListN.{replicate, set}
-use Rattle.printing.specs.Ascii.{ascii}
+use Rattle.words.specs.Ascii.{ascii}
 use Rattle.printing.specs.Digits.{hexOf, decimalOf, digitsOf, digit, trimmed}
 use Rattle.printing.specs.Lines.{badLine, stopLine, regLine, startLine, pageLine}
 use Rattle.printing.specs.Answer.{answerText, regsFrom, pagesFrom, regPart, pagePart}

@@ -1,5 +1,4 @@
 -- The answer's text (document 01, "The bench sheet").
-pub mod Ascii
 pub mod Digits
 pub mod Lines
 pub mod Answer

@@ -1,7 +1,7 @@
 -- The lines: a name, fields that are parted by tabs, and LF.
 use mathlib.Core.List.{List, _++_}
 use Prim.Native.Nat.{ℕ}
-use Rattle.printing.specs.Ascii.{ascii}
+use Rattle.words.specs.Ascii.{ascii}
 use Rattle.printing.specs.Digits.{hexOf, decimalOf}
 
 abbrev pub STOP : List ℕ

@@ -3,20 +3,26 @@ use mathlib.Core.Path.{_≡_, refl}
 use mathlib.Core.Bool.{Bool, true, false}
 use mathlib.Core.List.{List, [], _∷_}
 use Prim.Native.Nat.{ℕ, suc}
+use Prim.Native.String.{String}
 use lib.Dec.{eqb}
 use lib.ListN.{getD, take, drop, replicate}
+use Rattle.words.specs.Ascii.{ascii}
 use Rattle.reading.specs.Cut.{span, before, after, count}
 use Rattle.reading.specs.Digits.{digitOf, allDigits, valueAfter, noLeadingZero, isDecimal, isHex, isBytes, pairsOf}
-use Rattle.reading.specs.Line.{same, entryOf, bytesOf, startOf, runOf, lineOf}
-use Rattle.reading.specs.Sheet.{Reading, bad, good, takePage, takeBytes, takeReg, takeStart, takeRun, readLines, readOnto, readingOf}
+use Rattle.reading.specs.Line.{same, readEntry, readBytes, readStart, readRun, lineOf}
+use Rattle.reading.specs.Order.{each, nearest, mayStand}
+use Rattle.reading.specs.Sheet.{Reading, bad, good, linesFrom, setBy, readBelow, readOnto, readingOf}
 
--- a sheet, and 0 if it is good or one more than the number of its bad line
+-- a sheet and what it comes to: 0 where it is good, or one more than the number of its bad line
 pub record Case : Type 0 where
   pub sheet : List ℕ
   pub expected : ℕ
 
-abbrev case : List ℕ → ℕ → Case
-case sheet expected = record { sheet = sheet; expected = expected }
+abbrev fine : String → Case
+fine sheet = record { sheet = ascii sheet; expected = 0 }
+
+abbrev faulty : ℕ → String → Case
+faulty n sheet = record { sheet = ascii sheet; expected = suc n }
 
 abbrev answered : Reading → ℕ
 answered (bad n mem map regs) = suc n
@@ -25,63 +31,75 @@ answered (good s) = 0
 unfoldable pub table : List Case
 table =
     -- whole case
-    case (80 ∷ 65 ∷ 71 ∷ 69 ∷ 9 ∷ 49 ∷ 48 ∷ 9 ∷ 51 ∷ 48 ∷ 48 ∷ 51 ∷ 10 ∷ 66 ∷ 89 ∷ 84 ∷ 69 ∷ 83 ∷ 9 ∷ 49 ∷ 50 ∷ 50 ∷ 56 ∷ 56 ∷ 9 ∷ 52 ∷ 49 ∷ 49 ∷ 48 ∷ 48 ∷ 48 ∷ 48 ∷ 53 ∷ 10 ∷ 83 ∷ 84 ∷ 65 ∷ 82 ∷ 84 ∷ 9 ∷ 48 ∷ 48 ∷ 65 ∷ 48 ∷ 48 ∷ 48 ∷ 9 ∷ 48 ∷ 9 ∷ 48 ∷ 10 ∷ 82 ∷ 85 ∷ 78 ∷ 9 ∷ 49 ∷ 10 ∷ []) 0
+    fine "PAGE\t10\t3003\nBYTES\t12288\t41100005\nSTART\t00A000\t0\t0\nRUN\t1\n"
     ∷  -- no line at all
-    case ([]) 2
+    faulty 1 ""
     ∷  -- an empty line
-    case (10 ∷ []) 2
+    faulty 1 "\n"
     ∷  -- no line end behind the last line
-    case (83 ∷ 84 ∷ 65 ∷ 82 ∷ 84 ∷ 9 ∷ 48 ∷ 48 ∷ 65 ∷ 48 ∷ 48 ∷ 48 ∷ 9 ∷ 48 ∷ 9 ∷ 48 ∷ 10 ∷ 82 ∷ 85 ∷ 78 ∷ 9 ∷ 49 ∷ []) 3
+    faulty 2 "START\t00A000\t0\t0\nRUN\t1"
     ∷  -- RUN missing
-    case (83 ∷ 84 ∷ 65 ∷ 82 ∷ 84 ∷ 9 ∷ 48 ∷ 48 ∷ 65 ∷ 48 ∷ 48 ∷ 48 ∷ 9 ∷ 48 ∷ 9 ∷ 48 ∷ 10 ∷ []) 3
+    faulty 2 "START\t00A000\t0\t0\n"
     ∷  -- START missing
-    case (82 ∷ 85 ∷ 78 ∷ 9 ∷ 49 ∷ 10 ∷ []) 2
+    faulty 1 "RUN\t1\n"
     ∷  -- a line behind RUN
-    case (83 ∷ 84 ∷ 65 ∷ 82 ∷ 84 ∷ 9 ∷ 48 ∷ 48 ∷ 65 ∷ 48 ∷ 48 ∷ 48 ∷ 9 ∷ 48 ∷ 9 ∷ 48 ∷ 10 ∷ 82 ∷ 85 ∷ 78 ∷ 9 ∷ 49 ∷ 10 ∷ 10 ∷ []) 4
+    faulty 3 "START\t00A000\t0\t0\nRUN\t1\n\n"
     ∷  -- REG before BYTES
-    case (82 ∷ 69 ∷ 71 ∷ 9 ∷ 49 ∷ 9 ∷ 48 ∷ 48 ∷ 48 ∷ 48 ∷ 48 ∷ 48 ∷ 48 ∷ 53 ∷ 10 ∷ 66 ∷ 89 ∷ 84 ∷ 69 ∷ 83 ∷ 9 ∷ 48 ∷ 9 ∷ 48 ∷ 48 ∷ 10 ∷ 83 ∷ 84 ∷ 65 ∷ 82 ∷ 84 ∷ 9 ∷ 48 ∷ 48 ∷ 65 ∷ 48 ∷ 48 ∷ 48 ∷ 9 ∷ 48 ∷ 9 ∷ 48 ∷ 10 ∷ 82 ∷ 85 ∷ 78 ∷ 9 ∷ 49 ∷ 10 ∷ []) 3
+    faulty 2 "REG\t1\t00000005\nBYTES\t0\t00\nSTART\t00A000\t0\t0\nRUN\t1\n"
     ∷  -- PAGE after BYTES
-    case (66 ∷ 89 ∷ 84 ∷ 69 ∷ 83 ∷ 9 ∷ 48 ∷ 9 ∷ 48 ∷ 48 ∷ 10 ∷ 80 ∷ 65 ∷ 71 ∷ 69 ∷ 9 ∷ 49 ∷ 9 ∷ 51 ∷ 48 ∷ 48 ∷ 51 ∷ 10 ∷ 83 ∷ 84 ∷ 65 ∷ 82 ∷ 84 ∷ 9 ∷ 48 ∷ 48 ∷ 65 ∷ 48 ∷ 48 ∷ 48 ∷ 9 ∷ 48 ∷ 9 ∷ 48 ∷ 10 ∷ 82 ∷ 85 ∷ 78 ∷ 9 ∷ 49 ∷ 10 ∷ []) 3
+    faulty 2 "BYTES\t0\t00\nPAGE\t1\t3003\nSTART\t00A000\t0\t0\nRUN\t1\n"
     ∷  -- a page of word 0 twice
-    case (80 ∷ 65 ∷ 71 ∷ 69 ∷ 9 ∷ 49 ∷ 9 ∷ 48 ∷ 48 ∷ 48 ∷ 48 ∷ 10 ∷ 80 ∷ 65 ∷ 71 ∷ 69 ∷ 9 ∷ 49 ∷ 9 ∷ 48 ∷ 48 ∷ 48 ∷ 48 ∷ 10 ∷ 83 ∷ 84 ∷ 65 ∷ 82 ∷ 84 ∷ 9 ∷ 48 ∷ 48 ∷ 65 ∷ 48 ∷ 48 ∷ 48 ∷ 9 ∷ 48 ∷ 9 ∷ 48 ∷ 10 ∷ 82 ∷ 85 ∷ 78 ∷ 9 ∷ 49 ∷ 10 ∷ []) 3
+    faulty 2 "PAGE\t1\t0000\nPAGE\t1\t0000\nSTART\t00A000\t0\t0\nRUN\t1\n"
     ∷  -- a register twice
-    case (82 ∷ 69 ∷ 71 ∷ 9 ∷ 49 ∷ 53 ∷ 9 ∷ 48 ∷ 48 ∷ 48 ∷ 48 ∷ 48 ∷ 48 ∷ 48 ∷ 48 ∷ 10 ∷ 82 ∷ 69 ∷ 71 ∷ 9 ∷ 49 ∷ 53 ∷ 9 ∷ 48 ∷ 48 ∷ 48 ∷ 48 ∷ 48 ∷ 48 ∷ 48 ∷ 48 ∷ 10 ∷ 83 ∷ 84 ∷ 65 ∷ 82 ∷ 84 ∷ 9 ∷ 48 ∷ 48 ∷ 65 ∷ 48 ∷ 48 ∷ 48 ∷ 9 ∷ 48 ∷ 9 ∷ 48 ∷ 10 ∷ 82 ∷ 85 ∷ 78 ∷ 9 ∷ 49 ∷ 10 ∷ []) 3
+    faulty 2 "REG\t15\t00000000\nREG\t15\t00000000\nSTART\t00A000\t0\t0\nRUN\t1\n"
     ∷  -- page 511
-    case (80 ∷ 65 ∷ 71 ∷ 69 ∷ 9 ∷ 53 ∷ 49 ∷ 49 ∷ 9 ∷ 70 ∷ 70 ∷ 70 ∷ 70 ∷ 10 ∷ 83 ∷ 84 ∷ 65 ∷ 82 ∷ 84 ∷ 9 ∷ 48 ∷ 48 ∷ 65 ∷ 48 ∷ 48 ∷ 48 ∷ 9 ∷ 48 ∷ 9 ∷ 48 ∷ 10 ∷ 82 ∷ 85 ∷ 78 ∷ 9 ∷ 49 ∷ 10 ∷ []) 0
+    fine "PAGE\t511\tFFFF\nSTART\t00A000\t0\t0\nRUN\t1\n"
     ∷  -- page 512
-    case (80 ∷ 65 ∷ 71 ∷ 69 ∷ 9 ∷ 53 ∷ 49 ∷ 50 ∷ 9 ∷ 70 ∷ 70 ∷ 70 ∷ 70 ∷ 10 ∷ 83 ∷ 84 ∷ 65 ∷ 82 ∷ 84 ∷ 9 ∷ 48 ∷ 48 ∷ 65 ∷ 48 ∷ 48 ∷ 48 ∷ 9 ∷ 48 ∷ 9 ∷ 48 ∷ 10 ∷ 82 ∷ 85 ∷ 78 ∷ 9 ∷ 49 ∷ 10 ∷ []) 2
+    faulty 1 "PAGE\t512\tFFFF\nSTART\t00A000\t0\t0\nRUN\t1\n"
     ∷  -- register 16
-    case (82 ∷ 69 ∷ 71 ∷ 9 ∷ 49 ∷ 54 ∷ 9 ∷ 48 ∷ 48 ∷ 48 ∷ 48 ∷ 48 ∷ 48 ∷ 48 ∷ 48 ∷ 10 ∷ 83 ∷ 84 ∷ 65 ∷ 82 ∷ 84 ∷ 9 ∷ 48 ∷ 48 ∷ 65 ∷ 48 ∷ 48 ∷ 48 ∷ 9 ∷ 48 ∷ 9 ∷ 48 ∷ 10 ∷ 82 ∷ 85 ∷ 78 ∷ 9 ∷ 49 ∷ 10 ∷ []) 2
+    faulty 1 "REG\t16\t00000000\nSTART\t00A000\t0\t0\nRUN\t1\n"
     ∷  -- a leading zero
-    case (80 ∷ 65 ∷ 71 ∷ 69 ∷ 9 ∷ 48 ∷ 49 ∷ 9 ∷ 51 ∷ 48 ∷ 48 ∷ 51 ∷ 10 ∷ 83 ∷ 84 ∷ 65 ∷ 82 ∷ 84 ∷ 9 ∷ 48 ∷ 48 ∷ 65 ∷ 48 ∷ 48 ∷ 48 ∷ 9 ∷ 48 ∷ 9 ∷ 48 ∷ 10 ∷ 82 ∷ 85 ∷ 78 ∷ 9 ∷ 49 ∷ 10 ∷ []) 2
+    faulty 1 "PAGE\t01\t3003\nSTART\t00A000\t0\t0\nRUN\t1\n"
     ∷  -- lower case
-    case (80 ∷ 65 ∷ 71 ∷ 69 ∷ 9 ∷ 49 ∷ 9 ∷ 51 ∷ 48 ∷ 48 ∷ 97 ∷ 10 ∷ 83 ∷ 84 ∷ 65 ∷ 82 ∷ 84 ∷ 9 ∷ 48 ∷ 48 ∷ 65 ∷ 48 ∷ 48 ∷ 48 ∷ 9 ∷ 48 ∷ 9 ∷ 48 ∷ 10 ∷ 82 ∷ 85 ∷ 78 ∷ 9 ∷ 49 ∷ 10 ∷ []) 2
+    faulty 1 "PAGE\t1\t300a\nSTART\t00A000\t0\t0\nRUN\t1\n"
     ∷  -- three digits for a word
-    case (80 ∷ 65 ∷ 71 ∷ 69 ∷ 9 ∷ 49 ∷ 9 ∷ 51 ∷ 48 ∷ 48 ∷ 10 ∷ 83 ∷ 84 ∷ 65 ∷ 82 ∷ 84 ∷ 9 ∷ 48 ∷ 48 ∷ 65 ∷ 48 ∷ 48 ∷ 48 ∷ 9 ∷ 48 ∷ 9 ∷ 48 ∷ 10 ∷ 82 ∷ 85 ∷ 78 ∷ 9 ∷ 49 ∷ 10 ∷ []) 2
+    faulty 1 "PAGE\t1\t300\nSTART\t00A000\t0\t0\nRUN\t1\n"
     ∷  -- an odd digit
-    case (66 ∷ 89 ∷ 84 ∷ 69 ∷ 83 ∷ 9 ∷ 48 ∷ 9 ∷ 48 ∷ 48 ∷ 48 ∷ 10 ∷ 83 ∷ 84 ∷ 65 ∷ 82 ∷ 84 ∷ 9 ∷ 48 ∷ 48 ∷ 65 ∷ 48 ∷ 48 ∷ 48 ∷ 9 ∷ 48 ∷ 9 ∷ 48 ∷ 10 ∷ 82 ∷ 85 ∷ 78 ∷ 9 ∷ 49 ∷ 10 ∷ []) 2
+    faulty 1 "BYTES\t0\t000\nSTART\t00A000\t0\t0\nRUN\t1\n"
     ∷  -- no byte
-    case (66 ∷ 89 ∷ 84 ∷ 69 ∷ 83 ∷ 9 ∷ 48 ∷ 9 ∷ 10 ∷ 83 ∷ 84 ∷ 65 ∷ 82 ∷ 84 ∷ 9 ∷ 48 ∷ 48 ∷ 65 ∷ 48 ∷ 48 ∷ 48 ∷ 9 ∷ 48 ∷ 9 ∷ 48 ∷ 10 ∷ 82 ∷ 85 ∷ 78 ∷ 9 ∷ 49 ∷ 10 ∷ []) 2
+    faulty 1 "BYTES\t0\t\nSTART\t00A000\t0\t0\nRUN\t1\n"
     ∷  -- 32 bytes
-    case (66 ∷ 89 ∷ 84 ∷ 69 ∷ 83 ∷ 9 ∷ 54 ∷ 53 ∷ 53 ∷ 48 ∷ 52 ∷ 9 ∷ 65 ∷ 53 ∷ 65 ∷ 53 ∷ 65 ∷ 53 ∷ 65 ∷ 53 ∷ 65 ∷ 53 ∷ 65 ∷ 53 ∷ 65 ∷ 53 ∷ 65 ∷ 53 ∷ 65 ∷ 53 ∷ 65 ∷ 53 ∷ 65 ∷ 53 ∷ 65 ∷ 53 ∷ 65 ∷ 53 ∷ 65 ∷ 53 ∷ 65 ∷ 53 ∷ 65 ∷ 53 ∷ 65 ∷ 53 ∷ 65 ∷ 53 ∷ 65 ∷ 53 ∷ 65 ∷ 53 ∷ 65 ∷ 53 ∷ 65 ∷ 53 ∷ 65 ∷ 53 ∷ 65 ∷ 53 ∷ 65 ∷ 53 ∷ 65 ∷ 53 ∷ 65 ∷ 53 ∷ 65 ∷ 53 ∷ 65 ∷ 53 ∷ 65 ∷ 53 ∷ 65 ∷ 53 ∷ 65 ∷ 53 ∷ 10 ∷ 83 ∷ 84 ∷ 65 ∷ 82 ∷ 84 ∷ 9 ∷ 48 ∷ 48 ∷ 65 ∷ 48 ∷ 48 ∷ 48 ∷ 9 ∷ 48 ∷ 9 ∷ 48 ∷ 10 ∷ 82 ∷ 85 ∷ 78 ∷ 9 ∷ 49 ∷ 10 ∷ []) 0
+    fine "BYTES\t65504\tA5A5A5A5A5A5A5A5A5A5A5A5A5A5A5A5A5A5A5A5A5A5A5A5A5A5A5A5A5A5A5A5\nSTART\t00A000\t0\t0\nRUN\t1\n"
     ∷  -- 33 bytes
-    case (66 ∷ 89 ∷ 84 ∷ 69 ∷ 83 ∷ 9 ∷ 48 ∷ 9 ∷ 65 ∷ 53 ∷ 65 ∷ 53 ∷ 65 ∷ 53 ∷ 65 ∷ 53 ∷ 65 ∷ 53 ∷ 65 ∷ 53 ∷ 65 ∷ 53 ∷ 65 ∷ 53 ∷ 65 ∷ 53 ∷ 65 ∷ 53 ∷ 65 ∷ 53 ∷ 65 ∷ 53 ∷ 65 ∷ 53 ∷ 65 ∷ 53 ∷ 65 ∷ 53 ∷ 65 ∷ 53 ∷ 65 ∷ 53 ∷ 65 ∷ 53 ∷ 65 ∷ 53 ∷ 65 ∷ 53 ∷ 65 ∷ 53 ∷ 65 ∷ 53 ∷ 65 ∷ 53 ∷ 65 ∷ 53 ∷ 65 ∷ 53 ∷ 65 ∷ 53 ∷ 65 ∷ 53 ∷ 65 ∷ 53 ∷ 65 ∷ 53 ∷ 65 ∷ 53 ∷ 65 ∷ 53 ∷ 65 ∷ 53 ∷ 65 ∷ 53 ∷ 10 ∷ 83 ∷ 84 ∷ 65 ∷ 82 ∷ 84 ∷ 9 ∷ 48 ∷ 48 ∷ 65 ∷ 48 ∷ 48 ∷ 48 ∷ 9 ∷ 48 ∷ 9 ∷ 48 ∷ 10 ∷ 82 ∷ 85 ∷ 78 ∷ 9 ∷ 49 ∷ 10 ∷ []) 2
+    faulty 1 "BYTES\t0\tA5A5A5A5A5A5A5A5A5A5A5A5A5A5A5A5A5A5A5A5A5A5A5A5A5A5A5A5A5A5A5A5A5\nSTART\t00A000\t0\t0\nRUN\t1\n"
     ∷  -- a byte past memory
-    case (66 ∷ 89 ∷ 84 ∷ 69 ∷ 83 ∷ 9 ∷ 54 ∷ 53 ∷ 53 ∷ 48 ∷ 53 ∷ 9 ∷ 65 ∷ 53 ∷ 65 ∷ 53 ∷ 65 ∷ 53 ∷ 65 ∷ 53 ∷ 65 ∷ 53 ∷ 65 ∷ 53 ∷ 65 ∷ 53 ∷ 65 ∷ 53 ∷ 65 ∷ 53 ∷ 65 ∷ 53 ∷ 65 ∷ 53 ∷ 65 ∷ 53 ∷ 65 ∷ 53 ∷ 65 ∷ 53 ∷ 65 ∷ 53 ∷ 65 ∷ 53 ∷ 65 ∷ 53 ∷ 65 ∷ 53 ∷ 65 ∷ 53 ∷ 65 ∷ 53 ∷ 65 ∷ 53 ∷ 65 ∷ 53 ∷ 65 ∷ 53 ∷ 65 ∷ 53 ∷ 65 ∷ 53 ∷ 65 ∷ 53 ∷ 65 ∷ 53 ∷ 65 ∷ 53 ∷ 65 ∷ 53 ∷ 65 ∷ 53 ∷ 65 ∷ 53 ∷ 65 ∷ 53 ∷ 10 ∷ 83 ∷ 84 ∷ 65 ∷ 82 ∷ 84 ∷ 9 ∷ 48 ∷ 48 ∷ 65 ∷ 48 ∷ 48 ∷ 48 ∷ 9 ∷ 48 ∷ 9 ∷ 48 ∷ 10 ∷ 82 ∷ 85 ∷ 78 ∷ 9 ∷ 49 ∷ 10 ∷ []) 2
+    faulty 1 "BYTES\t65505\tA5A5A5A5A5A5A5A5A5A5A5A5A5A5A5A5A5A5A5A5A5A5A5A5A5A5A5A5A5A5A5A5\nSTART\t00A000\t0\t0\nRUN\t1\n"
     ∷  -- two tabs
-    case (82 ∷ 85 ∷ 78 ∷ 9 ∷ 9 ∷ 49 ∷ 10 ∷ []) 2
+    faulty 1 "RUN\t\t1\n"
     ∷  -- a field too many
-    case (83 ∷ 84 ∷ 65 ∷ 82 ∷ 84 ∷ 9 ∷ 48 ∷ 48 ∷ 65 ∷ 48 ∷ 48 ∷ 48 ∷ 9 ∷ 48 ∷ 9 ∷ 48 ∷ 9 ∷ 10 ∷ 82 ∷ 85 ∷ 78 ∷ 9 ∷ 49 ∷ 10 ∷ []) 2
+    faulty 1 "START\t00A000\t0\t0\t\nRUN\t1\n"
     ∷  -- code 4
-    case (83 ∷ 84 ∷ 65 ∷ 82 ∷ 84 ∷ 9 ∷ 48 ∷ 48 ∷ 65 ∷ 48 ∷ 48 ∷ 48 ∷ 9 ∷ 52 ∷ 9 ∷ 48 ∷ 10 ∷ 82 ∷ 85 ∷ 78 ∷ 9 ∷ 49 ∷ 10 ∷ []) 2
+    faulty 1 "START\t00A000\t4\t0\nRUN\t1\n"
     ∷  -- mask 16
-    case (83 ∷ 84 ∷ 65 ∷ 82 ∷ 84 ∷ 9 ∷ 48 ∷ 48 ∷ 65 ∷ 48 ∷ 48 ∷ 48 ∷ 9 ∷ 48 ∷ 9 ∷ 49 ∷ 54 ∷ 10 ∷ 82 ∷ 85 ∷ 78 ∷ 9 ∷ 49 ∷ 10 ∷ []) 2
+    faulty 1 "START\t00A000\t0\t16\nRUN\t1\n"
     ∷  -- budget 65535
-    case (83 ∷ 84 ∷ 65 ∷ 82 ∷ 84 ∷ 9 ∷ 70 ∷ 70 ∷ 70 ∷ 70 ∷ 70 ∷ 70 ∷ 9 ∷ 51 ∷ 9 ∷ 49 ∷ 53 ∷ 10 ∷ 82 ∷ 85 ∷ 78 ∷ 9 ∷ 54 ∷ 53 ∷ 53 ∷ 51 ∷ 53 ∷ 10 ∷ []) 0
+    fine "START\tFFFFFF\t3\t15\nRUN\t65535\n"
     ∷  -- budget 65536
-    case (83 ∷ 84 ∷ 65 ∷ 82 ∷ 84 ∷ 9 ∷ 70 ∷ 70 ∷ 70 ∷ 70 ∷ 70 ∷ 70 ∷ 9 ∷ 51 ∷ 9 ∷ 49 ∷ 53 ∷ 10 ∷ 82 ∷ 85 ∷ 78 ∷ 9 ∷ 54 ∷ 53 ∷ 53 ∷ 51 ∷ 54 ∷ 10 ∷ []) 3
+    faulty 2 "START\tFFFFFF\t3\t15\nRUN\t65536\n"
     ∷  -- two START lines
-    case (83 ∷ 84 ∷ 65 ∷ 82 ∷ 84 ∷ 9 ∷ 48 ∷ 48 ∷ 65 ∷ 48 ∷ 48 ∷ 48 ∷ 9 ∷ 48 ∷ 9 ∷ 48 ∷ 10 ∷ 83 ∷ 84 ∷ 65 ∷ 82 ∷ 84 ∷ 9 ∷ 48 ∷ 48 ∷ 65 ∷ 48 ∷ 48 ∷ 48 ∷ 9 ∷ 48 ∷ 9 ∷ 48 ∷ 10 ∷ 82 ∷ 85 ∷ 78 ∷ 9 ∷ 49 ∷ 10 ∷ []) 3
+    faulty 2 "START\t00A000\t0\t0\nSTART\t00A000\t0\t0\nRUN\t1\n"
+    ∷  -- BYTES after REG, at the bottom of a good beginning
+    faulty 4 "PAGE\t1\t3003\nBYTES\t0\t00\nREG\t1\t00000005\nBYTES\t0\t00\nSTART\t00A000\t0\t0\nRUN\t1\n"
+    ∷  -- REG after START
+    faulty 2 "START\t00A000\t0\t0\nREG\t1\t00000005\nRUN\t1\n"
+    ∷  -- two RUN lines
+    faulty 3 "START\t00A000\t0\t0\nRUN\t1\nRUN\t1\n"
+    ∷  -- bytes without a line end behind RUN
+    faulty 3 "START\t00A000\t0\t0\nRUN\t1\nR"
+    ∷  -- several of each kind, in any order of their numbers
+    fine "PAGE\t2\t3003\nPAGE\t1\t3003\nBYTES\t1\t00\nBYTES\t0\t0000\nREG\t2\t00000005\nREG\t1\t00000005\nSTART\t00A000\t0\t0\nRUN\t1\n"
+    ∷  -- START and RUN missing
+    faulty 2 "PAGE\t1\t3003\n"
     ∷ []
 
 -- the sheets whose answer is another than the table says
@@ -94,7 +112,7 @@ failing (c ∷ cs) = skip (eqb (answered (readingOf (c .sheet))) (c .expected)) 
     skip false s rest = s ∷ rest
 
 unfoldable computes : Unit {0}
-unfolding readingOf readOnto readLines takePage takeBytes takeReg takeStart takeRun lineOf entryOf bytesOf startOf runOf same isDecimal isHex isBytes noLeadingZero allDigits valueAfter digitOf pairsOf span before after count
+unfolding readingOf readOnto readBelow linesFrom setBy mayStand each nearest lineOf readEntry readBytes readStart readRun same isDecimal isHex isBytes noLeadingZero allDigits valueAfter digitOf pairsOf span before after count
 computes = tt
 
 all-right : failing table ≡ []
@@ -107,7 +125,7 @@ shown (bad n mem map regs) = []
 shown (good s) =
     s .pc ∷ s .code ∷ s .mask ∷ s .budget ∷ getD (s .map) 10 0 ∷ take 6 (drop 12287 (s .mem))
 
-whole-case : shown (readingOf (getD table 0 (case [] 0) .sheet)) ≡ 0x00A000 ∷ 0 ∷ 0 ∷ 1 ∷ 0x3003 ∷ 0 ∷ 0x41 ∷ 0x10 ∷ 0x00 ∷ 0x05 ∷ 0 ∷ []
+whole-case : shown (readingOf (getD table 0 (fine "") .sheet)) ≡ 0x00A000 ∷ 0 ∷ 0 ∷ 1 ∷ 0x3003 ∷ 0 ∷ 0x41 ∷ 0x10 ∷ 0x00 ∷ 0x05 ∷ 0 ∷ []
 unfolding computes shown table
 whole-case = refl
 

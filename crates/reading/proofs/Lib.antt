@@ -1,10 +1,13 @@
 -- Laws that the functions' proofs cite.
+mod Tests
 mod Cuts
 mod Numbers
-mod Names
-mod Lines
-mod Pairs
-mod Taking
-mod Walks
+mod SameText
+mod LineFields
+mod Stores
+mod LineSteps
+mod Ranges
+mod Order
+mod ReadLines
 mod Cases
 mod Only

@@ -14,6 +14,7 @@ use Rattle.words.specs.Pick.{pick, both}
 use Rattle.reading.specs.Digits.{digitOf, allDigits, valueAfter, valueOf, noLeadingZero, isDecimal, isHex, isBytes}
 use Rattle.reading.specs.declared.digits.Num.{Num}
 use Rattle.reading.specs.declared.digits.Num.the-variants.{Got, No}
+use Rattle.reading.proofs.Tests.{both-true, pick-false}
 
 -- ---- a digit
 module _ (b : ℕ) where
@@ -38,7 +39,8 @@ module _ (b : ℕ) where
   digit-letter h k =
       let l : 48 ≤ b = omega arith in
       let m : 57 < b = omega arith in
-      rw (le-leb 48 b l, lt-leb b 57 m, le-leb 65 b h, le-leb b 70 k)
+      let n : b - 55 ≡ b - 65 + 10 = omega arith in
+      rw (le-leb 48 b l, lt-leb b 57 m, le-leb 65 b h, le-leb b 70 k) n
 
   pub digit-over : 70 < b → 16 ≡ digitOf b
   unfolding digitOf
@@ -60,10 +62,6 @@ value-grows base n (b ∷ bs) h =
 abbrev pub answer : ℕ → ℕ → ℕ → List ℕ → Num
 answer base last n bs =
     pick (both (allDigits base bs) (leb (valueAfter base n bs) last)) (Got (valueAfter base n bs)) No
-
-pick-false : {A : Type 0} (t u : Bool) (x y : A) → u ≡ false → y ≡ pick (both t u) x y
-pick-false true u x y e = rw e
-pick-false false u x y e = refl
 
 pub digits-at : (base : ℕ) (s : List ℕ) (i : ℕ) → i < length s
     → allDigits base (drop i s) ≡ both (ltb (digitOf (getD s i 0)) base) (allDigits base (drop (i + 1) s))
@@ -123,10 +121,6 @@ module _ (last : ℕ) (s : List ℕ) where
   decimal-zero e f g = rw (ne-eqb _ _ e, ne-eqb _ _ f, eq-eqb _ _ g)
 
 -- ---- hexadecimal numbers
-pub both-true : (t u : Bool) → both t u ≡ true → (t ≡ true) × (u ≡ true)
-both-true true u e = (refl, e)
-both-true false u e = absurd (let z : _≡_ {A = ℕ} 0 1 = cc in omega arith)
-
 value-below : (k n : ℕ) (bs : List ℕ) → allDigits 16 bs ≡ true → n < 16 ^ k → valueAfter 16 n bs < 16 ^ (k + length bs)
 unfolding valueAfter allDigits
 value-below k n [] e h = rw add-zero h

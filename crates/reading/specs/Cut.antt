@@ -4,6 +4,14 @@ use Prim.Native.Nat.{ℕ, suc, _+_}
 use lib.Dec.{eqb}
 use lib.ListN.{take, drop}
 use Rattle.words.specs.Pick.{pick}
+use Rattle.words.specs.Ascii.{letter}
+
+-- the marks: the line end, LF, and the tab
+abbrev pub lineEnd : ℕ
+lineEnd = letter "\n"
+
+abbrev pub tab : ℕ
+tab = letter "\t"
 
 -- how many bytes stand before the first mark, which is all of them where there is none
 unfoldable pub span : ℕ → List ℕ → ℕ

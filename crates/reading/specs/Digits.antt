@@ -5,13 +5,14 @@ use Prim.Native.Nat.{ℕ, _+_, _-_, _*_, _%_}
 use lib.Dec.{eqb, leb, ltb}
 use lib.ListN.{length, getD}
 use Rattle.words.specs.Pick.{pick, both}
+use Rattle.words.specs.Ascii.{letter}
 
 -- What a digit counts: 0 to 9, then A to F in upper case. Any other byte is no digit, and counts 16, as many as no base allows.
 unfoldable pub digitOf : ℕ → ℕ
 digitOf b =
-    pick (both (leb 48 b) (leb b 57))
-    (b - 48)
-    (pick (both (leb 65 b) (leb b 70)) (b - 55) 16)
+    pick (both (leb (letter "0") b) (leb b (letter "9")))
+    (b - letter "0")
+    (pick (both (leb (letter "A") b) (leb b (letter "F"))) (b - letter "A" + 10) 16)
 
 -- every byte is a digit of the base
 unfoldable pub allDigits : ℕ → List ℕ → Bool
@@ -31,7 +32,7 @@ unfoldable pub noLeadingZero : List ℕ → Bool
 noLeadingZero bs =
     pick (eqb (length bs) 0)
     false
-    (pick (eqb (length bs) 1) true (not (eqb (getD bs 0 0) 48)))
+    (pick (eqb (length bs) 1) true (not (eqb (getD bs 0 0) (letter "0"))))
 
 -- a decimal number from 0 to `last`
 unfoldable pub isDecimal : ℕ → List ℕ → Bool

@@ -2,6 +2,7 @@
 pub mod Digits
 pub mod Cut
 pub mod Line
+pub mod Order
 pub mod Setting
 pub mod Sheet
 pub mod Told

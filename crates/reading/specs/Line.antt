@@ -5,7 +5,8 @@ use Prim.Native.Nat.{ℕ, _+_, _/_}
 use lib.Dec.{eqb, leb}
 use lib.ListN.{length}
 use Rattle.words.specs.Pick.{pick, both}
-use Rattle.reading.specs.Cut.{before, after}
+use Rattle.words.specs.Ascii.{ascii}
+use Rattle.reading.specs.Cut.{tab, before, after}
 use Rattle.reading.specs.Digits.{valueOf, isDecimal, isHex, isBytes, pairsOf}
 
 -- the number and word of a page; an address and bytes; the number and word of a register; counter, code and mask; a budget
@@ -26,29 +27,29 @@ same (a ∷ cs) (b ∷ bs) = both (eqb a b) (same cs bs)
 
 -- a text's first field, and what stands after the tab behind it
 abbrev pub first : List ℕ → List ℕ
-first text = before 9 text
+first text = before tab text
 
 abbrev pub others : List ℕ → List ℕ
-others text = after 9 text
+others text = after tab text
 
 -- a number from 0 to `last`, and a word of k hexadecimal digits
-unfoldable pub entryOf : (ℕ → ℕ → Line) → ℕ → ℕ → List ℕ → Line
-entryOf make last k text =
+unfoldable pub readEntry : (ℕ → ℕ → Line) → ℕ → ℕ → List ℕ → Line
+readEntry make last k text =
     pick (both (isDecimal last (first text)) (isHex k (others text)))
     (make (valueOf 10 (first text)) (valueOf 16 (others text)))
     wrong
 
 -- PAGE: number 0 to 511, word of 4 hexadecimal digits
-abbrev pub pageOf : List ℕ → Line
-pageOf text = entryOf page 511 4 text
+abbrev pub readPage : List ℕ → Line
+readPage text = readEntry page 511 4 text
 
 -- REG: number 0 to 15, word of 8 hexadecimal digits
-abbrev pub regOf : List ℕ → Line
-regOf text = entryOf reg 15 8 text
+abbrev pub readReg : List ℕ → Line
+readReg text = readEntry reg 15 8 text
 
 -- BYTES: real address, 1 to 32 bytes, none of them past the 65,536 bytes of memory
-unfoldable pub bytesOf : List ℕ → Line
-bytesOf text =
+unfoldable pub readBytes : List ℕ → Line
+readBytes text =
     pick
     (both (both (isDecimal 65535 (first text)) (isBytes (others text)))
     (leb (valueOf 10 (first text) + length (others text) / 2) 65536))
@@ -56,8 +57,8 @@ bytesOf text =
     wrong
 
 -- START: counter of 6 hexadecimal digits, code 0 to 3, mask 0 to 15
-unfoldable pub startOf : List ℕ → Line
-startOf text =
+unfoldable pub readStart : List ℕ → Line
+readStart text =
     pick
     (both (isHex 6 (first text))
     (both (isDecimal 3 (first (others text))) (isDecimal 15 (others (others text)))))
@@ -65,34 +66,34 @@ startOf text =
     wrong
 
 -- RUN: budget 0 to 65,535
-unfoldable pub runOf : List ℕ → Line
-runOf text = pick (isDecimal 65535 text) (run (valueOf 10 text)) wrong
+unfoldable pub readRun : List ℕ → Line
+readRun text = pick (isDecimal 65535 text) (run (valueOf 10 text)) wrong
 
--- the names of the kinds, letter by letter
+-- the names of the kinds
 abbrev pub PAGE : List ℕ
-PAGE = 80 ∷ 65 ∷ 71 ∷ 69 ∷ []
+PAGE = ascii "PAGE"
 
 abbrev pub BYTES : List ℕ
-BYTES = 66 ∷ 89 ∷ 84 ∷ 69 ∷ 83 ∷ []
+BYTES = ascii "BYTES"
 
 abbrev pub REG : List ℕ
-REG = 82 ∷ 69 ∷ 71 ∷ []
+REG = ascii "REG"
 
 abbrev pub START : List ℕ
-START = 83 ∷ 84 ∷ 65 ∷ 82 ∷ 84 ∷ []
+START = ascii "START"
 
 abbrev pub RUN : List ℕ
-RUN = 82 ∷ 85 ∷ 78 ∷ []
+RUN = ascii "RUN"
 
 -- A line's first field is the name of its kind.
 unfoldable pub lineOf : List ℕ → Line
 lineOf text =
     pick (same (first text) PAGE)
-    (pageOf (others text))
+    (readPage (others text))
     (pick (same (first text) BYTES)
-    (bytesOf (others text))
+    (readBytes (others text))
     (pick (same (first text) REG)
-    (regOf (others text))
+    (readReg (others text))
     (pick (same (first text) START)
-    (startOf (others text))
-    (pick (same (first text) RUN) (runOf (others text)) wrong))))
+    (readStart (others text))
+    (pick (same (first text) RUN) (readRun (others text)) wrong))))

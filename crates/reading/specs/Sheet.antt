@@ -1,13 +1,14 @@
--- A whole sheet: its lines in order, and what they set.
-use mathlib.Core.List.{List}
+-- A whole sheet (document 01, "The bench sheet"): its lines from the first to the last, and what they set.
+use mathlib.Core.List.{List, [], _∷_}
 use Prim.Native.Nat.{ℕ, zero, suc, _+_}
-use lib.Dec.{eqb, leb, ltb}
-use lib.ListN.{length, getD, set, replicate}
+use lib.Dec.{ltb}
+use lib.ListN.{length, set, replicate}
 use lib.Seq.{sets}
-use Rattle.words.specs.Pick.{pick, both}
-use Rattle.reading.specs.Cut.{before, after, count}
+use Rattle.words.specs.Pick.{pick}
+use Rattle.reading.specs.Cut.{lineEnd, before, after, count}
 use Rattle.reading.specs.Setting.{Setting, withMem, withMap, withRegs, withStart, withBudget}
 use Rattle.reading.specs.Line.{Line, page, bytes, reg, start, run, wrong, lineOf}
+use Rattle.reading.specs.Order.{mayStand, mayEnd}
 
 -- A bad sheet: the number of its first bad line, and memory, page words and registers as the lines before it left them.
 -- Or what a good one sets.
@@ -18,87 +19,38 @@ pub data Reading : Type 0 where
 abbrev pub badAt : ℕ → Setting → Reading
 badAt n h = bad n (h .mem) (h .map) (h .regs)
 
--- What the lines so far came to: how far the sheet has got, the setting, and a 1 for each page and each register that a line gave.
--- The stage is 0 at first and after a PAGE line, 1 after BYTES, 2 after REG, 3 after START and 4 after RUN.
-pub record State : Type 0 where
-  pub stage : ℕ
-  pub pages : List ℕ
-  pub named : List ℕ
-  pub held : Setting
+-- a text's lines, as many as there are line ends; a last line without LF is misformed
+unfoldable pub linesFrom : ℕ → List ℕ → List Line
+linesFrom zero [] = []
+linesFrom zero (b ∷ bs) = wrong ∷ []
+linesFrom (suc k) text = lineOf (before lineEnd text) ∷ linesFrom k (after lineEnd text)
 
--- a line that is out of order or gives a number twice, or the state after a line
-pub data Next : Type 0 where
-  off : Next
-  on : State → Next
+abbrev pub linesOf : List ℕ → List Line
+linesOf sheet = linesFrom (count lineEnd sheet) sheet
 
--- PAGE lines come first, and give each page at most once
-unfoldable pub takePage : ℕ → ℕ → State → Next
-takePage n w s =
-    pick (both (eqb (s .stage) 0) (eqb (getD (s .pages) n 0) 0))
-    (on (record { stage = 0; pages = set (s .pages) n 1; named = s .named; held = withMap (s .held) (set (s .held .map) n w) }))
-    off
+-- what a line sets; of two BYTES lines that set a byte the later wins
+unfoldable pub setBy : Line → Setting → Setting
+setBy (page n w) h = withMap h (set (h .map) n w)
+setBy (bytes a bs) h = withMem h (sets (h .mem) a bs)
+setBy (reg n v) h = withRegs h (set (h .regs) n v)
+setBy (start pc code mask) h = withStart h pc code mask
+setBy (run budget) h = withBudget h budget
+setBy wrong h = h
 
--- BYTES lines come next; of two that set a byte the later wins
-unfoldable pub takeBytes : ℕ → List ℕ → State → Next
-takeBytes a bs s =
-    pick (leb (s .stage) 1)
-    (on (record { stage = 1; pages = s .pages; named = s .named; held = withMem (s .held) (sets (s .held .mem) a bs) }))
-    off
+-- The lines below those above, which set h. The first line that may not stand where it stands is the bad one, and a missing line
+-- counts as the line after the last. Lines are counted from 1.
+unfoldable pub readBelow : List Line → Setting → List Line → Reading
+readBelow above h [] = pick (mayEnd above) (good h) (badAt (length above + 1) h)
+readBelow above h (l ∷ ls) =
+    let on = readBelow (l ∷ above) (setBy l h) ls in
+    pick (mayStand l above) on (badAt (length above + 1) h)
 
--- then REG lines, which give each register at most once
-unfoldable pub takeReg : ℕ → ℕ → State → Next
-takeReg n v s =
-    pick (both (leb (s .stage) 2) (eqb (getD (s .named) n 0) 0))
-    (on (record { stage = 2; pages = s .pages; named = set (s .named) n 1; held = withRegs (s .held) (set (s .held .regs) n v) }))
-    off
-
--- then one START line
-unfoldable pub takeStart : ℕ → ℕ → ℕ → State → Next
-takeStart pc code mask s =
-    pick (leb (s .stage) 2)
-    (on (record { stage = 3; pages = s .pages; named = s .named; held = withStart (s .held) pc code mask }))
-    off
-
--- then one RUN line
-unfoldable pub takeRun : ℕ → State → Next
-takeRun budget s =
-    pick (eqb (s .stage) 3)
-    (on (record { stage = 4; pages = s .pages; named = s .named; held = withBudget (s .held) budget }))
-    off
-
-abbrev pub takeLine : Line → State → Next
-takeLine (page n w) s = takePage n w s
-takeLine (bytes a bs) s = takeBytes a bs s
-takeLine (reg n v) s = takeReg n v s
-takeLine (start pc code mask) s = takeStart pc code mask s
-takeLine (run budget) s = takeRun budget s
-takeLine wrong s = off
-
--- on with the state after a line, unless the line is a bad one
-abbrev pub afterLine : ℕ → State → Next → (State → Reading) → Reading
-afterLine n s off go = badAt n (s .held)
-afterLine n s (on t) go = go t
-
--- The lines from number n on, as many as there are line ends.
--- What stands behind the last line end would be a line without its own. Where a line is missing, its number is that of the line after the last.
-unfoldable pub readLines : ℕ → ℕ → List ℕ → State → Reading
-readLines zero n text s =
-    pick (both (eqb (length text) 0) (eqb (s .stage) 4)) (good (s .held)) (badAt n (s .held))
-readLines (suc k) n text s =
-    afterLine n s (takeLine (lineOf (before 10 text)) s) (λ t. readLines k (n + 1) (after 10 text) t)
-
--- a sheet that is read onto given lists
+-- a sheet that is read onto given lists; over 65,536 bytes it gives line 0 before all else
 unfoldable pub readOnto : List ℕ → List ℕ → List ℕ → List ℕ → Reading
 readOnto mem map regs sheet =
-    pick (ltb 65536 (length sheet))
-    (bad 0 mem map regs)
-    (readLines (count 10 sheet) 1 sheet
-    (record {
-      stage = 0;
-      pages = replicate 512 0;
-      named = replicate 16 0;
-      held = record { mem = mem; map = map; regs = regs; pc = 0; code = 0; mask = 0; budget = 0 };
-    }))
+    let h : Setting = record { mem = mem; map = map; regs = regs; pc = 0; code = 0; mask = 0; budget = 0 } in
+    let lines = readBelow [] h (linesOf sheet) in
+    pick (ltb 65536 (length sheet)) (bad 0 mem map regs) lines
 
 -- a sheet: memory, page words and registers are zero at first
 unfoldable pub readingOf : List ℕ → Reading

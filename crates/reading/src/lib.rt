@@ -9,9 +9,9 @@ ghost use mathlib.Core.Path.{_≡_};
 ghost use Prim.Native.Nat.{_≤_};
 ghost use lib.ListN.{length};
 ghost use Rattle.reading.specs.Cut.{count};
-ghost use Rattle.reading.specs.Sheet.{readLines, readOnto};
+ghost use Rattle.reading.specs.Sheet.{readOnto};
 ghost use Rattle.reading.specs.Told.{asReading};
-ghost use Rattle.reading.specs.Within.{stateOf};
+ghost use Rattle.reading.specs.Within.{left, stateOf, readLines};
 use cut::front;
 use sheet::Progress;
 use sheet::Step;
@@ -41,7 +41,7 @@ fn read_lines(
     named: &mut [u8],
 ) -> Reading
     requires { ⌜ length (now sheet) ≤ 65536 ⌝ }
-    ensures { λ r. ⌜ asReading r (now (mem .exit)) (now (map .exit)) (now (regs .exit)) ≡ readLines (count 10 (now (sheet .entry))) 1 (now (sheet .entry)) (stateOf (record { stage = 0; pc = 0; code = 0; mask = 0; budget = 0 }) (now (mem .entry)) (now (map .entry)) (now (regs .entry)) (now (pages .entry)) (now (named .entry))) ⌝ }
+    ensures { λ r. ⌜ left (asReading r (now (mem .exit)) (now (map .exit)) (now (regs .exit))) (now (pages .exit)) (now (named .exit)) ≡ readLines (count 10 (now (sheet .entry))) 1 (now (sheet .entry)) (stateOf (record { stage = 0; pc = 0; code = 0; mask = 0; budget = 0 }) (now (mem .entry)) (now (map .entry)) (now (regs .entry)) (now (pages .entry)) (now (named .entry))) ⌝ }
 {
     let mut p = Progress {
         stage: 0,

@@ -1,6 +1,6 @@
 // One line of a sheet.
 ghost use mathlib.Core.Path.{_≡_};
-ghost use Rattle.reading.specs.Line.{same, lineOf, pageOf, bytesOf, regOf, startOf, runOf, others};
+ghost use Rattle.reading.specs.Line.{same, lineOf, readPage, readBytes, readReg, readStart, readRun, others};
 ghost use Rattle.reading.specs.Within.{Says};
 use crate::cut::back;
 use crate::cut::front;
@@ -41,7 +41,7 @@ pub enum Line {
 
 // The fields behind a line's name, by its kind.
 fn page_line(text: &[u8]) -> Line
-    ensures { λ r. ⌜ Says r (others (now (text .entry))) (pageOf (now (text .entry))) ⌝ }
+    ensures { λ r. ⌜ Says r (others (now (text .entry))) (readPage (now (text .entry))) ⌝ }
 {
     let a = front(text, 9);
     let b = back(text, 9);
@@ -55,7 +55,7 @@ fn page_line(text: &[u8]) -> Line
 }
 
 fn reg_line(text: &[u8]) -> Line
-    ensures { λ r. ⌜ Says r (others (now (text .entry))) (regOf (now (text .entry))) ⌝ }
+    ensures { λ r. ⌜ Says r (others (now (text .entry))) (readReg (now (text .entry))) ⌝ }
 {
     let a = front(text, 9);
     let b = back(text, 9);
@@ -69,7 +69,7 @@ fn reg_line(text: &[u8]) -> Line
 }
 
 fn start_line(text: &[u8]) -> Line
-    ensures { λ r. ⌜ Says r (others (now (text .entry))) (startOf (now (text .entry))) ⌝ }
+    ensures { λ r. ⌜ Says r (others (now (text .entry))) (readStart (now (text .entry))) ⌝ }
 {
     let a = front(text, 9);
     let b = back(text, 9);
@@ -86,7 +86,7 @@ fn start_line(text: &[u8]) -> Line
 }
 
 fn run_line(text: &[u8]) -> Line
-    ensures { λ r. ⌜ Says r (others (now (text .entry))) (runOf (now (text .entry))) ⌝ }
+    ensures { λ r. ⌜ Says r (others (now (text .entry))) (readRun (now (text .entry))) ⌝ }
 {
     let Num::Got(n) = decimal(text, 65535) else {
         return Line::Wrong;
@@ -95,7 +95,7 @@ fn run_line(text: &[u8]) -> Line
 }
 
 fn bytes_line(text: &[u8]) -> Line
-    ensures { λ r. ⌜ Says r (others (now (text .entry))) (bytesOf (now (text .entry))) ⌝ }
+    ensures { λ r. ⌜ Says r (others (now (text .entry))) (readBytes (now (text .entry))) ⌝ }
 {
     let a = front(text, 9);
     let b = back(text, 9);

@@ -1,7 +1,6 @@
 // What the lines of a sheet do, one after another.
 ghost use mathlib.Core.Path.{_≡_};
 ghost use Rattle.reading.specs.Line.{lineOf};
-ghost use Rattle.reading.specs.Sheet.{takeLine};
 ghost use Rattle.reading.specs.Within.{asLine, hexBehind, stateOf, stepped, asStepped};
 use crate::cut::back;
 use crate::line::Line;
@@ -76,7 +75,7 @@ fn take_line(
     named: &mut [u8],
 ) -> Step
     requires { ⌜ hexBehind line (now text) ⌝ }
-    ensures { λ r. ⌜ asStepped r (now (mem .exit)) (now (map .exit)) (now (regs .exit)) (now (pages .exit)) (now (named .exit)) ≡ stepped (stateOf p (now (mem .entry)) (now (map .entry)) (now (regs .entry)) (now (pages .entry)) (now (named .entry))) (takeLine (asLine line (now (text .entry))) (stateOf p (now (mem .entry)) (now (map .entry)) (now (regs .entry)) (now (pages .entry)) (now (named .entry)))) ⌝ }
+    ensures { λ r. ⌜ asStepped r (now (mem .exit)) (now (map .exit)) (now (regs .exit)) (now (pages .exit)) (now (named .exit)) ≡ stepped (stateOf p (now (mem .entry)) (now (map .entry)) (now (regs .entry)) (now (pages .entry)) (now (named .entry))) (asLine line (now (text .entry))) ⌝ }
 {
     let stage = p.stage;
     match line {
@@ -127,7 +126,7 @@ pub fn take_text(
     pages: &mut [u8],
     named: &mut [u8],
 ) -> Step
-    ensures { λ r. ⌜ asStepped r (now (mem .exit)) (now (map .exit)) (now (regs .exit)) (now (pages .exit)) (now (named .exit)) ≡ stepped (stateOf p (now (mem .entry)) (now (map .entry)) (now (regs .entry)) (now (pages .entry)) (now (named .entry))) (takeLine (lineOf (now (text .entry))) (stateOf p (now (mem .entry)) (now (map .entry)) (now (regs .entry)) (now (pages .entry)) (now (named .entry)))) ⌝ }
+    ensures { λ r. ⌜ asStepped r (now (mem .exit)) (now (map .exit)) (now (regs .exit)) (now (pages .exit)) (now (named .exit)) ≡ stepped (stateOf p (now (mem .entry)) (now (map .entry)) (now (regs .entry)) (now (pages .entry)) (now (named .entry))) (lineOf (now (text .entry))) ⌝ }
 {
     let line = read_line(text);
     let rest = back(text, 9);

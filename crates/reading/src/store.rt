@@ -5,18 +5,20 @@ ghost use Prim.Native.Nat.{_+_, _*_, _<_};
 ghost use lib.Dec.{eqb};
 ghost use lib.ListN.{getD, set};
 ghost use lib.Seq.{sets};
+ghost use Rattle.words.specs.Pick.{pick};
 ghost use Rattle.reading.specs.Digits.{digitOf, allDigits, pairsOf};
 use crate::digits::digit;
 
-// Marks a number as given, and says whether it is new.
+// Whether a number is new; from now on it is given.
 pub fn give(given: &mut [u8], n: u32) -> bool
-    ensures { λ r. ⌜ (r ≡ eqb (getD (now (given .entry)) n 0) 0) × (now (given .exit) ≡ set (now (given .entry)) n 1) ⌝ }
+    ensures { λ r. ⌜ (r ≡ eqb (getD (now (given .entry)) n 0) 0) × (now (given .exit) ≡ pick (eqb (getD (now (given .entry)) n 0) 0) (set (now (given .entry)) n 1) (now (given .entry))) ⌝ }
 {
     let i = n as usize;
     if i < given.len() {
-        let new = given[i] == 0;
+        if given[i] != 0 {
+            return false;
+        }
         given[i] = 1;
-        return new;
     }
     true
 }

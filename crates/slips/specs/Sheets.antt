@@ -1,71 +1,56 @@
 -- Slips in reading a sheet: of `reading::read_sheet`, and of what it stands on.
-use Prim.Native.Nat.{ℕ, zero, suc, _+_, _-_}
+use Prim.Native.Nat.{ℕ, _+_, _-_}
 use Prim.Native.String.{String}
-use mathlib.Core.Bool.{Bool}
+use mathlib.Core.Bool.{Bool, false}
 use mathlib.Core.List.{List, [], _∷_, _++_}
 use lib.Dec.{eqb, leb, ltb}
 use lib.ListN.{length, getD, replicate}
-use Rattle.words.specs.Pick.{pick, both}
+use Rattle.words.specs.Pick.{pick, both, either}
+use Rattle.words.specs.Ascii.{ascii}
 use Rattle.reading.specs.Cut.{span, before, after, count}
 use Rattle.reading.specs.Digits.{digitOf, allDigits, valueAfter, valueOf, noLeadingZero, isDecimal, isHex, isBytes, pairsOf}
 use Rattle.reading.specs.Line as line
-use Rattle.reading.specs.Sheet.{Reading, bad, good, badAt, State, Next, takePage, takeBytes, takeReg, takeStart, takeRun, takeLine, afterLine, readLines, readOnto}
-use Rattle.printing.specs.Ascii.{ascii}
+use Rattle.reading.specs.Order.{Kinds, any, none, isOf, each, nearest, aboveStart, mayStand, mayEnd}
+use Rattle.reading.specs.Setting.{Setting}
+use Rattle.reading.specs.Sheet.{Reading, bad, good, badAt, linesFrom, linesOf, setBy, readBelow, readOnto}
 use Rattle.slips.specs.Row.{Row, row}
 
 -- the definitions that this table computes
 unfoldable pub computes : Unit {0}
-unfolding span before after count digitOf allDigits valueAfter noLeadingZero isDecimal isHex isBytes pairsOf line.same line.entryOf
-    line.bytesOf line.startOf line.runOf line.lineOf takePage takeBytes takeReg takeStart takeRun readLines readOnto
+unfolding span before after count digitOf allDigits valueAfter noLeadingZero isDecimal isHex isBytes pairsOf line.same line.readEntry
+    line.readBytes line.readStart line.readRun line.lineOf each nearest mayStand linesFrom setBy readBelow readOnto
 computes = tt
 
--- how one line is taken, and what stands at the end of the lines
-abbrev Take : Type 0
-Take = List ℕ → State → Next
+-- the reader, with a longest sheet, a test of whether a line may stand below the lines above it, and how far behind the last line a
+-- missing one counts
+abbrev Test : Type 0
+Test = line.Line → List line.Line → Bool
 
-abbrev End : Type 0
-End = ℕ → List ℕ → State → Reading
+abbrev belowBy : Test → ℕ → List line.Line → Setting → List line.Line → Reading
+belowBy stands behind above h [] = pick (mayEnd above) (good h) (badAt (length above + behind) h)
+belowBy stands behind above h (l ∷ ls) =
+    let on = belowBy stands behind (l ∷ above) (setBy l h) ls in
+    pick (stands l above) on (badAt (length above + 1) h)
 
-abbrev taken : Take
-taken text s = takeLine (line.lineOf text) s
+abbrev readBy : ℕ → Test → ℕ → List ℕ → List ℕ → List ℕ → List ℕ → Reading
+readBy longest stands behind mem map regs sheet =
+    let h : Setting = record { mem = mem; map = map; regs = regs; pc = 0; code = 0; mask = 0; budget = 0 } in
+    let lines = belowBy stands behind [] h (linesOf sheet) in
+    pick (ltb longest (length sheet)) (bad 0 mem map regs) lines
 
-abbrev ended : End
-ended n text s = pick (both (eqb (length text) 0) (eqb (s .stage) 4)) (good (s .held)) (badAt n (s .held))
+-- PAGE may stand below PAGE, whichever pages they give
+abbrev pages : Kinds
+pages = record { page = any; bytes = false; reg = none; start = false; run = false }
 
--- the reader, with a longest sheet, a way to take a line, and an end
-abbrev linesBy : Take → End → ℕ → ℕ → List ℕ → State → Reading
-linesBy take end zero n text s = end n text s
-linesBy take end (suc k) n text s =
-    afterLine n s (take (before 10 text) s) (λ t. linesBy take end k (n + 1) (after 10 text) t)
+abbrev givenTwice : Test
+givenTwice l above = pick (isOf pages l) (each pages above) (mayStand l above)
 
-abbrev readBy : ℕ → Take → End → List ℕ → List ℕ → List ℕ → List ℕ → Reading
-readBy longest take end mem map regs sheet =
-    pick (ltb longest (length sheet))
-    (bad 0 mem map regs)
-    (linesBy take end (count 10 sheet) 1 sheet
-    (record {
-      stage = 0;
-      pages = replicate 512 0;
-      named = replicate 16 0;
-      held = record { mem = mem; map = map; regs = regs; pc = 0; code = 0; mask = 0; budget = 0 };
-    }))
+-- RUN may stand where START may
+abbrev runs : Kinds
+runs = record { page = none; bytes = false; reg = none; start = false; run = true }
 
--- the state at another stage, and with other pages noted as given
-abbrev known : ℕ → List ℕ → State → State
-known stage pages s = record { stage = stage; pages = pages; named = s .named; held = s .held }
-
--- no page is noted as given
-abbrev forgetting : Take
-forgetting text s = taken text (known (s .stage) [] s)
-
--- a RUN line may stand where a START line may
-abbrev runEarly : Take
-runEarly text s = taken text (pick (both (line.same (line.first text) line.RUN) (leb (s .stage) 2)) (known 3 (s .pages) s) s)
-
--- a missing line counts as the last line
-abbrev lastLine : End
-lastLine n text s =
-    pick (both (eqb (length text) 0) (eqb (s .stage) 4)) (good (s .held)) (badAt (pick (eqb (length text) 0) (n - 1) n) (s .held))
+abbrev runEarly : Test
+runEarly l above = either (mayStand l above) (both (isOf runs l) (each aboveStart above))
 
 -- a last line without LF is given one
 abbrev mended : List ℕ → List ℕ → List ℕ → List ℕ → Reading
@@ -114,14 +99,14 @@ bytesTold line.wrong = 0 ∷ []
 
 abbrev pub slips : List Row
 slips =
-    sheets "a page given twice accepted" (readBy 65536 forgetting ended)
+    sheets "a page given twice accepted" (readBy 65536 givenTwice 1)
     (ascii "PAGE\t10\t3003\nPAGE\t10\t3004\nSTART\t00A000\t0\t0\nRUN\t1\n") 0 1
-    ∷ sheets "RUN before START" (readBy 65536 runEarly ended) (ascii "RUN\t1\nSTART\t00A000\t0\t0\n") 1 2
+    ∷ sheets "RUN before START" (readBy 65536 runEarly 1) (ascii "RUN\t1\nSTART\t00A000\t0\t0\n") 1 2
     ∷ sheets "last line without LF accepted" mended (ascii "START\t00A000\t0\t0\nRUN\t1") 0 1
-    ∷ sheets "a missing line counted as the last line" (readBy 65536 taken lastLine) (ascii "START\t00A000\t0\t0\n") 2 1
-    ∷ sheets "a sheet of 65,537 bytes read" (readBy 65537 taken ended) (replicate 65537 0) 0 1
+    ∷ sheets "a missing line counted as the last line" (readBy 65536 mayStand 0) (ascii "START\t00A000\t0\t0\n") 2 1
+    ∷ sheets "a sheet of 65,537 bytes read" (readBy 65537 mayStand 1) (replicate 65537 0) 0 1
     -- reading::digits::decimal, digit; reading::line::bytes_line
     ∷ row "a leading zero accepted" (yes-or-no (isDecimal 511 (ascii "010"))) (yes-or-no (anyZeros 511 (ascii "010"))) 0 1
     ∷ row "lower-case hex accepted" (digitOf 97 ∷ []) (bothCases 97 ∷ []) 16 10
-    ∷ row "BYTES reaching past memory" (bytesTold (line.bytesOf (ascii "65535\t0102"))) (bytesTold (pastMemory (ascii "65535\t0102"))) 0 1
+    ∷ row "BYTES reaching past memory" (bytesTold (line.readBytes (ascii "65535\t0102"))) (bytesTold (pastMemory (ascii "65535\t0102"))) 0 1
     ∷ []

@@ -3,9 +3,8 @@ use Prim.Native.Nat.{_+_, _-_, _≤_}
 use mathlib.Core.Path.{_≡_, _∙_}
 use lib.ListN.{length, drop}
 use Rattle.reading.specs.Cut.{count}
-use Rattle.reading.specs.Sheet.{readLines}
-use Rattle.reading.specs.Within.{stateOf}
-use Rattle.reading.proofs.Walks.{read-good, read-missing, read-unended, read-off, read-within, read-turn}
+use Rattle.reading.specs.Within.{readLines, stateOf}
+use Rattle.reading.proofs.ReadLines.{read-good, read-missing, read-unended, read-off, read-within, read-turn}
 use Rattle.reading.proofs.read_lines.Statement.{statement}
 use Rattle.reading.proofs.read_lines.Tie as tie
 

@@ -1,4 +1,4 @@
-use Rattle.reading.proofs.Walks.{read-long, read-all}
+use Rattle.reading.proofs.ReadLines.{read-long, read-all}
 use borrow.Author.Needs.{needs}
 use Rattle.reading.proofs.read_sheet.Statement.{statement}
 use Rattle.reading.proofs.read_sheet.Tie as tie

@@ -1,4 +1,4 @@
-use Rattle.reading.proofs.Lines.{bytes-no, bytes-bad, bytes-past, bytes-is, bytes-hex}
+use Rattle.reading.proofs.LineFields.{bytes-no, bytes-bad, bytes-past, bytes-is, bytes-hex}
 use borrow.Author.Needs.{needs}
 use Rattle.reading.proofs.line.bytes_line.Statement.{statement}
 use Rattle.reading.proofs.line.bytes_line.Tie as tie

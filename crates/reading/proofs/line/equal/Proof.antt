@@ -3,7 +3,7 @@ use Prim.Native.Nat.{_-_, _≤_}
 use mathlib.Core.Path.{_≡_}
 use lib.ListN.{length, drop}
 use Rattle.reading.specs.Line.{same}
-use Rattle.reading.proofs.Names.{same-done, same-longer, same-shorter, same-differ, same-turn}
+use Rattle.reading.proofs.SameText.{same-done, same-longer, same-shorter, same-differ, same-turn}
 use Rattle.reading.proofs.line.equal.Statement.{statement}
 use Rattle.reading.proofs.line.equal.Tie as tie
 

@@ -1,4 +1,4 @@
-use Rattle.reading.proofs.Lines.{word-fits, entry-no, entry-bad, entry-is}
+use Rattle.reading.proofs.LineFields.{word-fits, entry-no, entry-bad, entry-is}
 use borrow.Author.Needs.{needs}
 use Rattle.reading.proofs.line.page_line.Statement.{statement}
 use Rattle.reading.proofs.line.page_line.Tie as tie

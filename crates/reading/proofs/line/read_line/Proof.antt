@@ -1,4 +1,4 @@
-use Rattle.reading.proofs.Lines.{line-page, line-bytes, line-reg, line-start, line-run, line-none}
+use Rattle.reading.proofs.LineFields.{line-page, line-bytes, line-reg, line-start, line-run, line-none}
 use borrow.Author.Needs.{needs}
 use Rattle.reading.proofs.line.read_line.Statement.{statement}
 use Rattle.reading.proofs.line.read_line.Tie as tie

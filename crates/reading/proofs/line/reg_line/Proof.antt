@@ -1,4 +1,4 @@
-use Rattle.reading.proofs.Lines.{entry-no, entry-bad, entry-is}
+use Rattle.reading.proofs.LineFields.{entry-no, entry-bad, entry-is}
 use borrow.Author.Needs.{needs}
 use Rattle.reading.proofs.line.reg_line.Statement.{statement}
 use Rattle.reading.proofs.line.reg_line.Tie as tie

@@ -1,4 +1,4 @@
-use Rattle.reading.proofs.Lines.{run-no, run-is}
+use Rattle.reading.proofs.LineFields.{run-no, run-is}
 use borrow.Author.Needs.{needs}
 use Rattle.reading.proofs.line.run_line.Statement.{statement}
 use Rattle.reading.proofs.line.run_line.Tie as tie

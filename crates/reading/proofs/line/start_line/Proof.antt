@@ -1,4 +1,4 @@
-use Rattle.reading.proofs.Lines.{start-no, start-code, start-mask, start-is}
+use Rattle.reading.proofs.LineFields.{start-no, start-code, start-mask, start-is}
 use borrow.Author.Needs.{needs}
 use Rattle.reading.proofs.line.start_line.Statement.{statement}
 use Rattle.reading.proofs.line.start_line.Tie as tie

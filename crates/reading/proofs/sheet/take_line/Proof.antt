@@ -1,4 +1,4 @@
-use Rattle.reading.proofs.Taking.{wrong-off, page-late, page-twice, page-on, bytes-late, bytes-on, reg-late, reg-twice, reg-on, start-late, start-on, run-off, run-on, hex-of}
+use Rattle.reading.proofs.LineSteps.{wrong-off, page-late, page-twice, page-on, bytes-late, bytes-on, reg-late, reg-twice, reg-on, start-late, start-on, run-off, run-on, hex-of}
 use borrow.Author.Needs.{needs}
 use Rattle.reading.proofs.sheet.take_line.Statement.{statement}
 use Rattle.reading.proofs.sheet.take_line.Tie as tie

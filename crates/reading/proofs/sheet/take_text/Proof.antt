@@ -1,4 +1,4 @@
-use Rattle.reading.proofs.Taking.{text-hex, text-takes}
+use Rattle.reading.proofs.LineSteps.{text-hex, text-takes}
 use borrow.Author.Needs.{needs}
 use Rattle.reading.proofs.sheet.take_text.Statement.{statement}
 use Rattle.reading.proofs.sheet.take_text.Tie as tie

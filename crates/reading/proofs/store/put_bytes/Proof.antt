@@ -5,7 +5,7 @@ use mathlib.Core.Bool.{true}
 use lib.ListN.{length, drop}
 use lib.Seq.{sets}
 use Rattle.reading.specs.Digits.{allDigits, pairsOf}
-use Rattle.reading.proofs.Pairs.{hex-first, hex-second, hex-rest, store-turn, store-done}
+use Rattle.reading.proofs.Stores.{hex-first, hex-second, hex-rest, store-turn, store-done}
 use Rattle.reading.proofs.store.put_bytes.Statement.{statement}
 use Rattle.reading.proofs.store.put_bytes.Tie as tie
 

@@ -1,4 +1,4 @@
-use Rattle.reading.proofs.Pairs.{kept}
+use Rattle.reading.proofs.Stores.{kept}
 use borrow.Author.Needs.{needs}
 use Rattle.reading.proofs.store.put_reg.Statement.{statement}
 use Rattle.reading.proofs.store.put_reg.Tie as tie

@@ -1,6 +1,6 @@
--- Bytes stored pair by pair.
+-- What is stored: bytes pair by pair, and the flag of a number that a line gives.
 use mathlib.Core.Path.{_≡_, sym, _∙_}
-use mathlib.Core.Bool.{true}
+use mathlib.Core.Bool.{Bool, true, false}
 use mathlib.Core.List.{List, [], _∷_}
 use Prim.Native.Nat.{ℕ, suc, _+_, _-_, _*_, _≤_, _<_}
 use native.Mathlib.Numerals.{add-one}
@@ -9,9 +9,11 @@ use native.Mathlib.Decide.{decLt}
 use lib.Dec.{eqb, ltb}
 use lib.ListN.{length, getD, set, drop, drop-of-length-le, List·getD-eq-default}
 use lib.Seq.{drop-cons, sets, set-out}
-use borrow.Author.Tests.{ltb-true}
+use borrow.Author.Tests.{ltb-true, ne-eqb}
+use Rattle.words.specs.Pick.{pick}
 use Rattle.reading.specs.Digits.{digitOf, allDigits, pairsOf}
-use Rattle.reading.proofs.Numbers.{both-true, digits-at}
+use Rattle.reading.proofs.Numbers.{digits-at}
+use Rattle.reading.proofs.Tests.{both-true}
 
 module _ (s : List ℕ) (i : ℕ) (a : allDigits 16 (drop i s) ≡ true) (h : i < length s) where
   halves : (ltb (digitOf (getD s i 0)) 16 ≡ true) × (allDigits 16 (drop (i + 1) s) ≡ true)
@@ -69,5 +71,16 @@ module _ (mem₀ mem s : List ℕ) (a at i : ℕ) (inv : sets mem₀ a (pairsOf 
 pub kept : (g : List ℕ) (n v : ℕ) → length g ≤ n → g ≡ set g n v
 kept g n v h = sym (set-out g n v h)
 
-pub not-given : (g : List ℕ) (n : ℕ) → length g ≤ n → true ≡ eqb (getD g n 0) 0
-not-given g n h = rw (List·getD-eq-default g 0 h)
+-- ---- a number that a line gives
+abbrev Given : List ℕ → ℕ → Bool → List ℕ → Type 0
+Given g n r g′ = (r ≡ eqb (getD g n 0) 0) × (g′ ≡ pick (eqb (getD g n 0) 0) (set g n 1) g)
+
+module _ (g : List ℕ) (n : ℕ) where
+  pub give-again : (getD g n 0 ≡ 0 → ⊥) → Given g n false g
+  give-again h = (rw (ne-eqb _ _ h), rw (ne-eqb _ _ h))
+
+  pub give-new : getD g n 0 ≡ 0 → Given g n true (set g n 1)
+  give-new h = (rw h, rw h)
+
+  pub give-past : length g ≤ n → Given g n true g
+  give-past h = (rw (List·getD-eq-default g 0 h), rw (List·getD-eq-default g 0 h, set-out g n 1 h))
