@@ -1,13 +1,17 @@
 // What a sheet cannot show: calls of the engine's entries with lists of any length and numbers of any size. Reads cases from
-// standard input (case.rt has their form) and writes each outcome, whole, to standard output (told.rt). The input's end, and
-// whatever is not of that form, end the program.
+// standard input (case.rt has their form) and writes each outcome, whole, to standard output (told.rt). The input may end between
+// two cases. Where it ends within one, is not of that form or cannot be read, and where an outcome cannot be written, standard
+// error has a line that says so, and the program ends.
+ghost use Prim.Native.Nat.{_≤_};
+ghost use lib.ListN.{length};
 mod case;
 mod input;
 mod told;
 
+use case::Head;
 use case::Scalars;
-use case::Sizes;
 use machine::Reply;
+use streams::Course;
 
 fn call(mem: &mut [u8], map: &mut [u16], regs: &mut [u32], is_run: bool, s: Scalars) -> Reply {
     if is_run {
@@ -16,74 +20,71 @@ fn call(mem: &mut [u8], map: &mut [u16], regs: &mut [u32], is_run: bool, s: Scal
     engine::step(mem, map, regs, s.pc, s.code, s.mask)
 }
 
-fn write_outcome(mem: &mut [u8], map: &mut [u16], regs: &mut [u32], is_run: bool, s: Scalars) {
-    let reply = call(mem, map, regs, is_run, s);
-    told::write(reply, regs, map, mem);
+// The scalars, the pieces and the call of a case whose lists stand.
+fn finish(mem: &mut [u8], map: &mut [u16], regs: &mut [u32], is_run: bool) -> Course {
+    let mut bytes = [0u8; 18];
+    let course = streams::fill_within(&mut bytes);
+    if !streams::is_fine(course) {
+        return course;
+    }
+    let scalars = case::scalars_of(&bytes);
+    let pieces = case::take_memory(mem, scalars.pieces);
+    if !streams::is_fine(pieces) {
+        return pieces;
+    }
+    let reply = call(mem, map, regs, is_run, scalars);
+    told::write(reply, regs, map, mem)
 }
 
-// A case whose lists have their lengths. This and what calls it: false where the cases end.
-fn answer(mem: &mut [u8], map: &mut [u16], regs: &mut [u32], is_run: bool) -> bool {
-    if !case::take_lists(map, regs) {
-        return false;
+// A case whose lists have their lengths.
+fn answer(mem: &mut [u8], map: &mut [u16], regs: &mut [u32], is_run: bool) -> Course
+    requires { ⌜ (length (now map) ≤ 600) × (length (now regs) ≤ 32) ⌝ }
+{
+    let words = case::take_map(map);
+    if !streams::is_fine(words) {
+        return words;
     }
-    let scalars = case::take_scalars();
-    if !scalars.is_good {
-        return false;
+    let values = case::take_regs(regs);
+    if !streams::is_fine(values) {
+        return values;
     }
-    if !case::take_memory(mem, scalars.pieces) {
-        return false;
-    }
-    write_outcome(mem, map, regs, is_run, scalars);
-    true
+    finish(mem, map, regs, is_run)
 }
 
-// The lists are cut to their lengths one after the other.
-fn cut_regs(mem: &mut [u8], map: &mut [u16], regs: &mut [u32], sizes: Sizes) -> bool {
-    let n = sizes.regs;
-    if regs.len() < n {
-        return false;
+// Memory, map and registers are zeros of the lengths that a case asks for.
+fn answer_to(head: Head) -> Course {
+    let bytes = head.mem;
+    let words = head.map;
+    let values = head.regs;
+    if head.kind > 1 || bytes > 270336 || words > 600 || values > 32 {
+        return Course::Malformed;
     }
-    answer(mem, map, &mut regs[..n], sizes.is_run)
-}
-
-fn cut_map(mem: &mut [u8], map: &mut [u16], regs: &mut [u32], sizes: Sizes) -> bool {
-    let n = sizes.map;
-    if map.len() < n {
-        return false;
-    }
-    cut_regs(mem, &mut map[..n], regs, sizes)
-}
-
-fn cut_mem(mem: &mut [u8], map: &mut [u16], regs: &mut [u32], sizes: Sizes) -> bool {
-    let n = sizes.mem;
-    if mem.len() < n {
-        return false;
-    }
-    cut_map(&mut mem[..n], map, regs, sizes)
-}
-
-// One case and its outcome.
-fn turn(mem: &mut [u8], map: &mut [u16], regs: &mut [u32]) -> bool {
-    let sizes = case::take_sizes();
-    if !sizes.is_good {
-        return false;
-    }
-    cut_mem(mem, map, regs, sizes)
-}
-
-fn answer_all(mem: &mut [u8], map: &mut [u16], regs: &mut [u32]) {
-    let mut is_done = false;
-    // Nothing says that the input ends, so the turns are counted down from a number that no run uses up.
-    let mut turns = u64::MAX;
-    while turns > 0 && !is_done {
-        is_done = !turn(mem, map, regs);
-        turns -= 1;
-    }
-}
-
-fn main() {
     let mut mem = [0u8; 270336];
     let mut map = [0u16; 600];
     let mut regs = [0u32; 32];
-    answer_all(&mut mem, &mut map, &mut regs);
+    answer(
+        &mut mem[0..bytes],
+        &mut map[0..words],
+        &mut regs[0..values],
+        head.kind == 1,
+    )
+}
+
+// The n-th case; whether to go on.
+fn turn(n: u64) -> bool {
+    let mut bytes = [0u8; 8];
+    let mut course = streams::fill(&mut bytes);
+    if streams::is_fine(course) {
+        course = answer_to(case::head_of(&bytes));
+    }
+    streams::tell(b"probe", b"case", n, course);
+    streams::is_fine(course)
+}
+
+fn main() {
+    // Nothing says that the input ends, so the cases are counted up to a number that no run reaches.
+    let mut n: u64 = 1;
+    while n < u64::MAX && turn(n) {
+        n += 1;
+    }
 }

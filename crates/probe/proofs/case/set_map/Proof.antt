@@ -1,55 +1,58 @@
--- The measure is how many page words are left.
-use mathlib.Core.Path.{_≡_}
-use Prim.Native.Nat.{_-_}
-use lib.ListN.{length}
-use borrow.Author.Needs.{needs}
 use Rattle.probe.proofs.case.set_map.Statement.{statement}
 use Rattle.probe.proofs.case.set_map.Tie as tie
+use Rattle.probe.proofs.case.set_map.Reads as reads
+use Rattle.probe.proofs.case.set_map.Lts as lts
+use Rattle.probe.proofs.input.half.Reads as half-reads
 
 abbrev Inv-loop : tie.InvT-loop
-Inv-loop map₀ bytes i₀ map i = length map ≡ length map₀
+Inv-loop map₀ bytes i₀ map i = ?
 
 abbrev μ-loop : tie.MeasureT-loop
-μ-loop map₀ bytes i₀ map i = length map₀ - i
+μ-loop map₀ bytes i₀ map i = ?
 
+-- src/case.rt:58:5
 loop-holds : tie.Need-loop-holds Inv-loop μ-loop
-loop-holds c = search needs
+loop-holds c = ?
 
-mul-number : tie.Need-mul-number Inv-loop μ-loop
-mul-number c = search needs
+-- src/case.rt:59:37
+mul-half : tie.Need-mul-half Inv-loop μ-loop
+mul-half c = ?
 
-mul-number-2 : tie.Need-mul-number-2 Inv-loop μ-loop
-mul-number-2 c = search needs
+-- src/case.rt:59:18
+half-requires : tie.Need-half-requires Inv-loop μ-loop
+half-requires c κs = ?
 
-add-number : tie.Need-add-number Inv-loop μ-loop
-add-number c = search needs
-
-number-requires : tie.Need-number-requires Inv-loop μ-loop
-number-requires c κs = search needs
-
+-- src/case.rt:59:18
 cast-map : tie.Need-cast-map Inv-loop μ-loop
-cast-map c = search needs
+cast-map c = ?
 
+-- src/case.rt:59:9
 mul-map : tie.Need-mul-map Inv-loop μ-loop
-mul-map c = search needs
+mul-map c = ?
 
+-- src/case.rt:59:9
 slice-write-map : tie.Need-slice-write-map Inv-loop μ-loop
-slice-write-map c = search needs
+slice-write-map c = ?
 
+-- src/case.rt:60:9
 add-i : tie.Need-add-i Inv-loop μ-loop
-add-i c = search needs
+add-i c = ?
 
+-- src/case.rt:58:5
 loop-less : tie.Need-loop-less Inv-loop μ-loop
-loop-less c = search needs
+loop-less c = ?
 
+-- src/case.rt:58:5
 loop-again : tie.Need-loop-again Inv-loop μ-loop
-loop-again c = search needs
+loop-again c = ?
 
+-- src/case.rt:54:1
 same-length : tie.Need-same-length Inv-loop μ-loop
-same-length c = search needs
+same-length c = ?
 
+-- src/case.rt:54:1
 returns : tie.Need-returns Inv-loop μ-loop
-returns c = search needs
+returns c = ?
 
 pub set-map-spec : {M : Type 1} → statement M
 set-map-spec =
@@ -58,10 +61,8 @@ set-map-spec =
     Inv-loop
     μ-loop
     loop-holds
-    mul-number
-    mul-number-2
-    add-number
-    number-requires
+    mul-half
+    half-requires
     cast-map
     mul-map
     slice-write-map

@@ -1,52 +1,54 @@
--- The measure is how many registers are left.
-use mathlib.Core.Path.{_≡_}
-use Prim.Native.Nat.{_-_}
-use lib.ListN.{length}
-use borrow.Author.Needs.{needs}
 use Rattle.probe.proofs.case.set_regs.Statement.{statement}
 use Rattle.probe.proofs.case.set_regs.Tie as tie
+use Rattle.probe.proofs.case.set_regs.Reads as reads
+use Rattle.probe.proofs.case.set_regs.Lts as lts
+use Rattle.probe.proofs.input.word.Reads as word-reads
 
 abbrev Inv-loop : tie.InvT-loop
-Inv-loop regs₀ bytes i₀ regs i = length regs ≡ length regs₀
+Inv-loop regs₀ bytes i₀ regs i = ?
 
 abbrev μ-loop : tie.MeasureT-loop
-μ-loop regs₀ bytes i₀ regs i = length regs₀ - i
+μ-loop regs₀ bytes i₀ regs i = ?
 
+-- src/case.rt:68:5
 loop-holds : tie.Need-loop-holds Inv-loop μ-loop
-loop-holds c = search needs
+loop-holds c = ?
 
-mul-number : tie.Need-mul-number Inv-loop μ-loop
-mul-number c = search needs
+-- src/case.rt:69:38
+mul-word : tie.Need-mul-word Inv-loop μ-loop
+mul-word c = ?
 
-mul-number-2 : tie.Need-mul-number-2 Inv-loop μ-loop
-mul-number-2 c = search needs
+-- src/case.rt:69:19
+word-requires : tie.Need-word-requires Inv-loop μ-loop
+word-requires c κs = ?
 
-add-number : tie.Need-add-number Inv-loop μ-loop
-add-number c = search needs
-
-number-requires : tie.Need-number-requires Inv-loop μ-loop
-number-requires c κs = search needs
-
+-- src/case.rt:69:9
 mul-regs : tie.Need-mul-regs Inv-loop μ-loop
-mul-regs c = search needs
+mul-regs c = ?
 
+-- src/case.rt:69:9
 slice-write-regs : tie.Need-slice-write-regs Inv-loop μ-loop
-slice-write-regs c = search needs
+slice-write-regs c = ?
 
+-- src/case.rt:70:9
 add-i : tie.Need-add-i Inv-loop μ-loop
-add-i c = search needs
+add-i c = ?
 
+-- src/case.rt:68:5
 loop-less : tie.Need-loop-less Inv-loop μ-loop
-loop-less c = search needs
+loop-less c = ?
 
+-- src/case.rt:68:5
 loop-again : tie.Need-loop-again Inv-loop μ-loop
-loop-again c = search needs
+loop-again c = ?
 
+-- src/case.rt:64:1
 same-length : tie.Need-same-length Inv-loop μ-loop
-same-length c = search needs
+same-length c = ?
 
+-- src/case.rt:64:1
 returns : tie.Need-returns Inv-loop μ-loop
-returns c = search needs
+returns c = ?
 
 pub set-regs-spec : {M : Type 1} → statement M
 set-regs-spec =
@@ -55,10 +57,8 @@ set-regs-spec =
     Inv-loop
     μ-loop
     loop-holds
-    mul-number
-    mul-number-2
-    add-number
-    number-requires
+    mul-word
+    word-requires
     mul-regs
     slice-write-regs
     add-i

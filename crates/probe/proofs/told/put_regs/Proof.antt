@@ -1,51 +1,69 @@
--- The measure is how many registers are left.
-use Prim.Native.Nat.{_-_}
-use borrow.Author.Needs.{needs}
-use lib.ListN.{length}
 use Rattle.probe.proofs.told.put_regs.Statement.{statement}
 use Rattle.probe.proofs.told.put_regs.Tie as tie
+use Rattle.probe.proofs.told.put_regs.Reads as reads
+use Rattle.probe.proofs.told.put_regs.Lts as lts
+use Rattle.printing.proofs.digits.put_decimal.Reads as put-decimal-reads
+use Rattle.printing.proofs.writing.put.Reads as put-reads
+use Rattle.printing.proofs.writing.put_all.Reads as put-all-reads
+use Rattle.probe.proofs.told.wide_word.Reads as wide-word-reads
 
 abbrev Inv-loop : tie.InvT-loop
-Inv-loop out₀ fill regs next₀ i₀ out next i = Unit {0}
+Inv-loop out₀ at regs next₀ i₀ out next i = ?
 
 abbrev μ-loop : tie.MeasureT-loop
-μ-loop out₀ fill regs next₀ i₀ out next i = length regs - i
+μ-loop out₀ at regs next₀ i₀ out next i = ?
 
+-- src/told.rt:26:37
 slice-aggregate-put-all : tie.Need-slice-aggregate-put-all Inv-loop μ-loop
-slice-aggregate-put-all c = search needs
+slice-aggregate-put-all c = ?
 
+-- src/told.rt:26:9
 put-all-requires : tie.Need-put-all-requires Inv-loop μ-loop
-put-all-requires c κs = search needs
+put-all-requires c κs = ?
 
+-- src/told.rt:28:5
 loop-holds : tie.Need-loop-holds Inv-loop μ-loop
-loop-holds c = search needs
+loop-holds c = ?
 
+-- src/told.rt:29:49
 mul-wide-word : tie.Need-mul-wide-word Inv-loop μ-loop
-mul-wide-word c = search needs
+mul-wide-word c = ?
 
+-- src/told.rt:29:49
 shared-slice-read-wide-word : tie.Need-shared-slice-read-wide-word Inv-loop μ-loop
-shared-slice-read-wide-word c = search needs
+shared-slice-read-wide-word c = ?
 
+-- src/told.rt:29:39
 wide-word-requires : tie.Need-wide-word-requires Inv-loop μ-loop
-wide-word-requires c κs = search needs
+wide-word-requires c κs = ?
 
-put-field-requires : tie.Need-put-field-requires Inv-loop μ-loop
-put-field-requires c κs = search needs
+-- src/told.rt:29:9
+put-decimal-requires : tie.Need-put-decimal-requires Inv-loop μ-loop
+put-decimal-requires c κs = ?
 
+-- src/told.rt:30:9
 add-i : tie.Need-add-i Inv-loop μ-loop
-add-i c = search needs
+add-i c = ?
 
+-- src/told.rt:28:5
 loop-less : tie.Need-loop-less Inv-loop μ-loop
-loop-less c = search needs
+loop-less c = ?
 
+-- src/told.rt:28:5
 loop-again : tie.Need-loop-again Inv-loop μ-loop
-loop-again c = search needs
+loop-again c = ?
 
+-- src/told.rt:32:5
 put-requires : tie.Need-put-requires Inv-loop μ-loop
-put-requires c κs = search needs
+put-requires c κs = ?
 
+-- src/told.rt:25:1
+same-length : tie.Need-same-length Inv-loop μ-loop
+same-length c = ?
+
+-- src/told.rt:25:1
 returns : tie.Need-returns Inv-loop μ-loop
-returns c = search needs
+returns c = ?
 
 pub put-regs-spec : {M : Type 1} → statement M
 put-regs-spec =
@@ -59,9 +77,10 @@ put-regs-spec =
     mul-wide-word
     shared-slice-read-wide-word
     wide-word-requires
-    put-field-requires
+    put-decimal-requires
     add-i
     loop-less
     loop-again
     put-requires
+    same-length
     returns)
