@@ -51,7 +51,7 @@ pub fn scalars_of(bytes: &[u8; 18]) -> Scalars {
     }
 }
 
-fn set_map(map: &mut [u16], bytes: &[u8])
+fn set_map(map: &mut [u16], bytes: &[u8; 1200])
     requires { ⌜ length (now map) ≤ 600 ⌝ }
 {
     let mut i = 0;
@@ -61,7 +61,7 @@ fn set_map(map: &mut [u16], bytes: &[u8])
     }
 }
 
-fn set_regs(regs: &mut [u32], bytes: &[u8])
+fn set_regs(regs: &mut [u32], bytes: &[u8; 128])
     requires { ⌜ length (now regs) ≤ 32 ⌝ }
 {
     let mut i = 0;

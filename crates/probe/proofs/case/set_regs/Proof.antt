@@ -1,54 +1,46 @@
+-- The measure is how many registers are left.
+use mathlib.Core.Path.{_≡_}
+use Prim.Native.Nat.{_-_}
+use lib.ListN.{length}
+use borrow.Author.Needs.{needs}
 use Rattle.probe.proofs.case.set_regs.Statement.{statement}
 use Rattle.probe.proofs.case.set_regs.Tie as tie
-use Rattle.probe.proofs.case.set_regs.Reads as reads
-use Rattle.probe.proofs.case.set_regs.Lts as lts
-use Rattle.probe.proofs.input.word.Reads as word-reads
 
 abbrev Inv-loop : tie.InvT-loop
-Inv-loop regs₀ bytes i₀ regs i = ?
+Inv-loop regs₀ bytes i₀ regs i = length regs ≡ length regs₀
 
 abbrev μ-loop : tie.MeasureT-loop
-μ-loop regs₀ bytes i₀ regs i = ?
+μ-loop regs₀ bytes i₀ regs i = length regs₀ - i
 
--- src/case.rt:68:5
 loop-holds : tie.Need-loop-holds Inv-loop μ-loop
-loop-holds c = ?
+loop-holds c = search needs
 
--- src/case.rt:69:38
 mul-word : tie.Need-mul-word Inv-loop μ-loop
-mul-word c = ?
+mul-word c = search needs
 
--- src/case.rt:69:19
 word-requires : tie.Need-word-requires Inv-loop μ-loop
-word-requires c κs = ?
+word-requires c κs = search needs
 
--- src/case.rt:69:9
 mul-regs : tie.Need-mul-regs Inv-loop μ-loop
-mul-regs c = ?
+mul-regs c = search needs
 
--- src/case.rt:69:9
 slice-write-regs : tie.Need-slice-write-regs Inv-loop μ-loop
-slice-write-regs c = ?
+slice-write-regs c = search needs
 
--- src/case.rt:70:9
 add-i : tie.Need-add-i Inv-loop μ-loop
-add-i c = ?
+add-i c = search needs
 
--- src/case.rt:68:5
 loop-less : tie.Need-loop-less Inv-loop μ-loop
-loop-less c = ?
+loop-less c = search needs
 
--- src/case.rt:68:5
 loop-again : tie.Need-loop-again Inv-loop μ-loop
-loop-again c = ?
+loop-again c = search needs
 
--- src/case.rt:64:1
 same-length : tie.Need-same-length Inv-loop μ-loop
-same-length c = ?
+same-length c = search needs
 
--- src/case.rt:64:1
 returns : tie.Need-returns Inv-loop μ-loop
-returns c = ?
+returns c = search needs
 
 pub set-regs-spec : {M : Type 1} → statement M
 set-regs-spec =

@@ -1,50 +1,42 @@
+-- The measure is what is left of the memory.
+use Prim.Native.Nat.{_-_}
+use lib.ListN.{length}
+use borrow.Author.Needs.{needs}
 use Rattle.probe.proofs.told.checksum.Statement.{statement}
 use Rattle.probe.proofs.told.checksum.Tie as tie
-use Rattle.probe.proofs.told.checksum.Reads as reads
-use Rattle.probe.proofs.told.checksum.Lts as lts
-use Rattle.probe.proofs.told.wide.Reads as wide-reads
 
 abbrev Inv-loop : tie.InvT-loop
-Inv-loop mem sum₀ i₀ sum i = ?
+Inv-loop mem sum₀ i₀ sum i = Unit {0}
 
 abbrev μ-loop : tie.MeasureT-loop
-μ-loop mem sum₀ i₀ sum i = ?
+μ-loop mem sum₀ i₀ sum i = length mem - i
 
--- src/told.rt:64:5
 loop-holds : tie.Need-loop-holds Inv-loop μ-loop
-loop-holds c = ?
+loop-holds c = search needs
 
--- src/told.rt:65:15
 mul-sum : tie.Need-mul-sum Inv-loop μ-loop
-mul-sum c = ?
+mul-sum c = search needs
 
--- src/told.rt:65:52
 shared-slice-read-wide : tie.Need-shared-slice-read-wide Inv-loop μ-loop
-shared-slice-read-wide c = ?
+shared-slice-read-wide c = search needs
 
--- src/told.rt:65:47
 wide-requires : tie.Need-wide-requires Inv-loop μ-loop
-wide-requires c κs = ?
+wide-requires c κs = search needs
 
--- src/told.rt:65:15
 add-sum : tie.Need-add-sum Inv-loop μ-loop
-add-sum c = ?
+add-sum c = search needs
 
--- src/told.rt:66:9
 add-i : tie.Need-add-i Inv-loop μ-loop
-add-i c = ?
+add-i c = search needs
 
--- src/told.rt:64:5
 loop-less : tie.Need-loop-less Inv-loop μ-loop
-loop-less c = ?
+loop-less c = search needs
 
--- src/told.rt:64:5
 loop-again : tie.Need-loop-again Inv-loop μ-loop
-loop-again c = ?
+loop-again c = search needs
 
--- src/told.rt:61:1
 returns : tie.Need-returns Inv-loop μ-loop
-returns c = ?
+returns c = search needs
 
 pub checksum-spec : {M : Type 1} → statement M
 checksum-spec =

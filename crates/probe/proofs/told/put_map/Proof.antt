@@ -1,69 +1,55 @@
+-- The measure is how many page words are left.
+use mathlib.Core.Path.{_≡_}
+use Prim.Native.Nat.{_-_}
+use lib.ListN.{length}
+use borrow.Author.Needs.{needs}
 use Rattle.probe.proofs.told.put_map.Statement.{statement}
 use Rattle.probe.proofs.told.put_map.Tie as tie
-use Rattle.probe.proofs.told.put_map.Reads as reads
-use Rattle.probe.proofs.told.put_map.Lts as lts
-use Rattle.printing.proofs.digits.put_decimal.Reads as put-decimal-reads
-use Rattle.printing.proofs.writing.put.Reads as put-reads
-use Rattle.printing.proofs.writing.put_all.Reads as put-all-reads
-use Rattle.probe.proofs.told.wide_half.Reads as wide-half-reads
 
 abbrev Inv-loop : tie.InvT-loop
-Inv-loop out₀ at map next₀ i₀ out next i = ?
+Inv-loop out₀ at map next₀ i₀ out next i = length out ≡ length out₀
 
 abbrev μ-loop : tie.MeasureT-loop
-μ-loop out₀ at map next₀ i₀ out next i = ?
+μ-loop out₀ at map next₀ i₀ out next i = length map - i
 
--- src/told.rt:36:37
 slice-aggregate-put-all : tie.Need-slice-aggregate-put-all Inv-loop μ-loop
-slice-aggregate-put-all c = ?
+slice-aggregate-put-all c = search needs
 
--- src/told.rt:36:9
 put-all-requires : tie.Need-put-all-requires Inv-loop μ-loop
-put-all-requires c κs = ?
+put-all-requires c κs = search needs
 
--- src/told.rt:38:5
 loop-holds : tie.Need-loop-holds Inv-loop μ-loop
-loop-holds c = ?
+loop-holds c = search needs
 
--- src/told.rt:39:49
 mul-wide-half : tie.Need-mul-wide-half Inv-loop μ-loop
-mul-wide-half c = ?
+mul-wide-half c = search needs
 
--- src/told.rt:39:49
 shared-slice-read-wide-half : tie.Need-shared-slice-read-wide-half Inv-loop μ-loop
-shared-slice-read-wide-half c = ?
+shared-slice-read-wide-half c = search needs
 
--- src/told.rt:39:39
 wide-half-requires : tie.Need-wide-half-requires Inv-loop μ-loop
-wide-half-requires c κs = ?
+wide-half-requires c κs = search needs
 
--- src/told.rt:39:9
 put-decimal-requires : tie.Need-put-decimal-requires Inv-loop μ-loop
-put-decimal-requires c κs = ?
+put-decimal-requires c κs = search needs
 
--- src/told.rt:40:9
 add-i : tie.Need-add-i Inv-loop μ-loop
-add-i c = ?
+add-i c = search needs
 
--- src/told.rt:38:5
 loop-less : tie.Need-loop-less Inv-loop μ-loop
-loop-less c = ?
+loop-less c = search needs
 
--- src/told.rt:38:5
 loop-again : tie.Need-loop-again Inv-loop μ-loop
-loop-again c = ?
+loop-again c = search needs
 
--- src/told.rt:42:5
 put-requires : tie.Need-put-requires Inv-loop μ-loop
-put-requires c κs = ?
+put-requires c κs = search needs
 
--- src/told.rt:35:1
 same-length : tie.Need-same-length Inv-loop μ-loop
-same-length c = ?
+same-length c = search needs
 
--- src/told.rt:35:1
 returns : tie.Need-returns Inv-loop μ-loop
-returns c = ?
+returns c = search needs
 
 pub put-map-spec : {M : Type 1} → statement M
 put-map-spec =
