@@ -4,6 +4,7 @@
 // error has a line that says so, and the program ends.
 ghost use Prim.Native.Nat.{_≤_};
 ghost use lib.ListN.{length};
+
 mod case;
 mod input;
 mod told;
