@@ -10,6 +10,7 @@
 //     pieces, each within memory: address, 4 bytes; length, 1 byte; the bytes
 //
 // What no piece names is zero.
+ghost use mathlib.Core.Path.{_≡_};
 ghost use Prim.Native.Nat.{_≤_};
 ghost use lib.ListN.{length};
 use crate::input;
@@ -41,54 +42,44 @@ pub fn head_of(bytes: &[u8; 8]) -> Head {
     }
 }
 
-pub fn scalars_of(bytes: &[u8; 18]) -> Scalars {
+// The scalars from an index on.
+pub fn scalars_of(bytes: &[u8; 1346], at: usize) -> Scalars
+    requires { ⌜ at ≤ 1328 ⌝ }
+{
     Scalars {
-        pc: input::word(bytes, 0),
-        code: input::word(bytes, 4),
-        mask: input::word(bytes, 8),
-        budget: input::word(bytes, 12),
-        pieces: input::half(bytes, 16),
+        pc: input::word(bytes, at),
+        code: input::word(bytes, at + 4),
+        mask: input::word(bytes, at + 8),
+        budget: input::word(bytes, at + 12),
+        pieces: input::half(bytes, at + 16),
     }
 }
 
-fn set_map(map: &mut [u16], bytes: &[u8; 1200])
-    requires { ⌜ length (now map) ≤ 600 ⌝ }
+// As many page words as a case may have; it uses its own.
+pub fn map_of(bytes: &[u8; 1346]) -> [u16; 600]
+    ensures { λ r. ⌜ 600 ≡ length r ⌝ }
 {
+    let mut map = [0u16; 600];
     let mut i = 0;
-    while i < map.len() {
+    while i < 600 {
         map[i] = input::half(bytes, 2 * i) as u16;
         i += 1;
     }
+    map
 }
 
-fn set_regs(regs: &mut [u32], bytes: &[u8; 128])
-    requires { ⌜ length (now regs) ≤ 32 ⌝ }
+// As many registers as a case may have, from an index on; it uses its own.
+pub fn regs_of(bytes: &[u8; 1346], at: usize) -> [u32; 32]
+    requires { ⌜ at ≤ 1200 ⌝ }
+    ensures { λ r. ⌜ 32 ≡ length r ⌝ }
 {
+    let mut regs = [0u32; 32];
     let mut i = 0;
-    while i < regs.len() {
-        regs[i] = input::word(bytes, 4 * i);
+    while i < 32 {
+        regs[i] = input::word(bytes, at + 4 * i);
         i += 1;
     }
-}
-
-pub fn take_map(map: &mut [u16]) -> Course
-    requires { ⌜ length (now map) ≤ 600 ⌝ }
-{
-    let mut bytes = [0u8; 1200];
-    let n = 2 * map.len();
-    let course = streams::fill_within(&mut bytes[0..n]);
-    set_map(map, &bytes);
-    course
-}
-
-pub fn take_regs(regs: &mut [u32]) -> Course
-    requires { ⌜ length (now regs) ≤ 32 ⌝ }
-{
-    let mut bytes = [0u8; 128];
-    let n = 4 * regs.len();
-    let course = streams::fill_within(&mut bytes[0..n]);
-    set_regs(regs, &bytes);
-    course
+    regs
 }
 
 fn take_piece(mem: &mut [u8]) -> Course {

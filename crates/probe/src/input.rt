@@ -21,7 +21,7 @@ pub fn half(list: &[u8], at: usize) -> u32
 }
 
 pub fn word(list: &[u8], at: usize) -> u32
-    requires { ⌜ at < 1000 ⌝ }
+    requires { ⌜ at < 1500 ⌝ }
 {
     half(list, at) * 65536 + half(list, at + 2)
 }

@@ -3,7 +3,6 @@
 // two cases. Where it ends within one, is not of that form or cannot be read, and where an outcome cannot be written, standard
 // error has a line that says so, and the program ends.
 ghost use Prim.Native.Nat.{_≤_};
-ghost use lib.ListN.{length};
 
 mod case;
 mod input;
@@ -21,54 +20,57 @@ fn call(mem: &mut [u8], map: &mut [u16], regs: &mut [u32], is_run: bool, s: Scal
     engine::step(mem, map, regs, s.pc, s.code, s.mask)
 }
 
-// The scalars, the pieces and the call of a case whose lists stand.
-fn finish(mem: &mut [u8], map: &mut [u16], regs: &mut [u32], is_run: bool) -> Course {
-    let mut bytes = [0u8; 18];
-    let course = streams::fill_within(&mut bytes);
+// A case whose lists stand: its pieces, and the call.
+fn finish(mem: &mut [u8], map: &mut [u16], regs: &mut [u32], is_run: bool, s: Scalars) -> Course {
+    let course = case::take_memory(mem, s.pieces);
     if !streams::is_fine(course) {
         return course;
     }
-    let scalars = case::scalars_of(&bytes);
-    let pieces = case::take_memory(mem, scalars.pieces);
-    if !streams::is_fine(pieces) {
-        return pieces;
-    }
-    let reply = call(mem, map, regs, is_run, scalars);
+    let reply = call(mem, map, regs, is_run, s);
     told::write(reply, regs, map, mem)
 }
 
-// A case whose lists have their lengths.
-fn answer(mem: &mut [u8], map: &mut [u16], regs: &mut [u32], is_run: bool) -> Course
-    requires { ⌜ (length (now map) ≤ 600) × (length (now regs) ≤ 32) ⌝ }
+// A case whose head is good, with the bytes between its head and its pieces. What it does not name is zero.
+fn answer(head: Head, bytes: &[u8; 1346]) -> Course
+    requires { ⌜ (head .mem ≤ 270336) × (head .map ≤ 600) × (head .regs ≤ 32) ⌝ }
 {
-    let words = case::take_map(map);
-    if !streams::is_fine(words) {
-        return words;
-    }
-    let values = case::take_regs(regs);
-    if !streams::is_fine(values) {
-        return values;
-    }
-    finish(mem, map, regs, is_run)
+    let m = head.mem;
+    let w = head.map;
+    let r = head.regs;
+    let mut mem = [0u8; 270336];
+    let mut map = case::map_of(bytes);
+    let mut regs = case::regs_of(bytes, 2 * w);
+    let scalars = case::scalars_of(bytes, 2 * w + 4 * r);
+    finish(
+        &mut mem[0..m],
+        &mut map[0..w],
+        &mut regs[0..r],
+        head.kind == 1,
+        scalars,
+    )
 }
 
-// Memory, map and registers are zeros of the lengths that a case asks for.
+// A case after its head.
 fn answer_to(head: Head) -> Course {
-    let bytes = head.mem;
-    let words = head.map;
-    let values = head.regs;
-    if head.kind > 1 || bytes > 270336 || words > 600 || values > 32 {
+    if head.kind > 1 {
         return Course::Malformed;
     }
-    let mut mem = [0u8; 270336];
-    let mut map = [0u16; 600];
-    let mut regs = [0u32; 32];
-    answer(
-        &mut mem[0..bytes],
-        &mut map[0..words],
-        &mut regs[0..values],
-        head.kind == 1,
-    )
+    if head.mem > 270336 {
+        return Course::Malformed;
+    }
+    if head.map > 600 {
+        return Course::Malformed;
+    }
+    if head.regs > 32 {
+        return Course::Malformed;
+    }
+    let mut bytes = [0u8; 1346];
+    let n = 2 * head.map + 4 * head.regs + 18;
+    let course = streams::fill_within(&mut bytes[0..n]);
+    if !streams::is_fine(course) {
+        return course;
+    }
+    answer(head, &bytes)
 }
 
 // The n-th case; whether to go on.

@@ -3,14 +3,14 @@ use mathlib.Core.Path.{_≡_}
 use Prim.Native.Nat.{_-_}
 use lib.ListN.{length}
 use borrow.Author.Needs.{needs}
-use Rattle.probe.proofs.case.set_map.Statement.{statement}
-use Rattle.probe.proofs.case.set_map.Tie as tie
+use Rattle.probe.proofs.case.map_of.Statement.{statement}
+use Rattle.probe.proofs.case.map_of.Tie as tie
 
 abbrev Inv-loop : tie.InvT-loop
-Inv-loop map₀ bytes i₀ map i = length map ≡ length map₀
+Inv-loop bytes map₀ i₀ map i = 600 ≡ length map
 
 abbrev μ-loop : tie.MeasureT-loop
-μ-loop map₀ bytes i₀ map i = length map₀ - i
+μ-loop bytes map₀ i₀ map i = 600 - i
 
 loop-holds : tie.Need-loop-holds Inv-loop μ-loop
 loop-holds c = search needs
@@ -27,8 +27,8 @@ cast-map c = search needs
 mul-map : tie.Need-mul-map Inv-loop μ-loop
 mul-map c = search needs
 
-slice-write-map : tie.Need-slice-write-map Inv-loop μ-loop
-slice-write-map c = search needs
+array-write-map : tie.Need-array-write-map Inv-loop μ-loop
+array-write-map c = search needs
 
 add-i : tie.Need-add-i Inv-loop μ-loop
 add-i c = search needs
@@ -39,14 +39,11 @@ loop-less c = search needs
 loop-again : tie.Need-loop-again Inv-loop μ-loop
 loop-again c = search needs
 
-same-length : tie.Need-same-length Inv-loop μ-loop
-same-length c = search needs
-
 returns : tie.Need-returns Inv-loop μ-loop
 returns c = search needs
 
-pub set-map-spec : {M : Type 1} → statement M
-set-map-spec =
+pub map-of-spec : {M : Type 1} → statement M
+map-of-spec =
     tie.close
     (tie.spec
     Inv-loop
@@ -56,9 +53,8 @@ set-map-spec =
     half-requires
     cast-map
     mul-map
-    slice-write-map
+    array-write-map
     add-i
     loop-less
     loop-again
-    same-length
     returns)
