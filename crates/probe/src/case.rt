@@ -9,7 +9,7 @@
 //     number of pieces of memory, 2 bytes
 //     pieces, each within memory: address, 4 bytes; length, 1 byte; the bytes
 //
-// What no piece names is zero.
+// What no piece names is zero. Between the kind with the lengths, 8 bytes, and the pieces stand at most 1,346 bytes.
 ghost use mathlib.Core.Path.{_≡_};
 ghost use Prim.Native.Nat.{_≤_};
 ghost use lib.ListN.{length};

@@ -3,14 +3,14 @@
 ghost use Prim.Native.Nat.{_≤_};
 ghost use lib.ListN.{length};
 
-// How the reading and writing went. The input may end between two entries; within one it is cut.
+// How reading an entry and writing its answer went.
 pub enum Course {
     Fine,
-    End,
-    Cut,
-    Malformed,
-    Unread,
-    Unwritten,
+    End, // the input ended before the entry
+    Cut, // the input ended within the entry
+    Malformed, // the entry is not of the form
+    Unread, // a read failed
+    Unwritten, // a write failed
 }
 
 // How many bytes were read, and whether a read that failed ended it.
