@@ -1,10 +1,17 @@
-// Many sheets in one input, each after its length in decimal and LF; the answers go out in the same form. The input's end, and
-// whatever is not of that form, end the program.
+// Many sheets in one input, each after its length in decimal and LF; the answers go out in the same form. The input may end
+// between two sheets. Where it ends within one, is not of that form or cannot be read, and where an answer cannot be written,
+// standard error has a line that says so, and the program ends.
 ghost use Prim.Native.Nat.{_<_};
+use streams::Course;
 
-struct Length {
-    value: usize,
-    is_good: bool,
+enum Byte {
+    Is(u8),
+    Not(Course),
+}
+
+enum Length {
+    Is(usize),
+    Not(Course),
 }
 
 fn is_digit(b: u8) -> bool {
@@ -18,101 +25,104 @@ fn digit(b: u8) -> usize
     if b < b'0' { 0 } else { (b - b'0') as usize }
 }
 
-// The next byte; 0, which is neither digit nor LF, after the input's end.
-fn take_byte() -> u8 {
+// The next byte of a length. Before the first the input may end.
+fn take_byte(is_first: bool) -> Byte {
     let mut byte = [0u8; 1];
-    io::read_full(libc::STDIN_FILENO, &mut byte);
-    byte[0]
+    let course = if is_first {
+        streams::fill(&mut byte)
+    } else {
+        streams::fill_within(&mut byte)
+    };
+    if streams::is_fine(course) {
+        return Byte::Is(byte[0]);
+    }
+    Byte::Not(course)
 }
 
-// The length in front of an entry: at most twelve digits, which no remainder cuts, and LF.
+// The length in front of a sheet: at most twelve digits, which no remainder cuts, and LF.
 fn take_length() -> Length {
     let mut value: usize = 0;
     let mut digits: usize = 0;
     while digits < 13 {
-        let b = take_byte();
-        if b == b'\n' {
-            return Length {
-                value: value,
-                is_good: digits > 0,
-            };
+        match take_byte(digits == 0) {
+            Byte::Not(course) => return Length::Not(course),
+            Byte::Is(b) => {
+                if b == b'\n' && digits > 0 {
+                    return Length::Is(value);
+                }
+                if !is_digit(b) {
+                    return Length::Not(Course::Malformed);
+                }
+                value = value % 100000000000 * 10 + digit(b);
+            }
         }
-        if !is_digit(b) {
-            break;
-        }
-        value = value % 100000000000 * 10 + digit(b);
         digits += 1;
     }
-    Length {
-        value: 0,
-        is_good: false,
-    }
+    Length::Not(Course::Malformed)
 }
 
-// Whether so many more bytes were there to be skipped.
-fn skip(bytes: usize) -> bool {
-    let mut byte = [0u8; 1];
-    let mut left = bytes;
-    while left > 0 {
-        if io::read_full(libc::STDIN_FILENO, &mut byte) == 0 {
-            return false;
+// Reads past n more bytes.
+fn skip(n: usize) -> Course {
+    let mut chunk = [0u8; 4096];
+    let mut left = n;
+    while left >= 4096 {
+        let course = streams::fill_within(&mut chunk);
+        if !streams::is_fine(course) {
+            return course;
         }
-        left -= 1;
+        left -= 4096;
     }
-    true
+    streams::fill_within(&mut chunk[0..left])
 }
 
-fn write_part(bytes: &[u8], n: usize) {
-    if n <= bytes.len() {
-        io::print_decimal(libc::STDOUT_FILENO, n as u64);
-        io::write_all(libc::STDOUT_FILENO, b"\n");
-        io::write_all(libc::STDOUT_FILENO, &bytes[..n]);
+fn write_text(text: printing::Text) -> Course {
+    let n = text.len;
+    if io::print_decimal(libc::STDOUT_FILENO, n as u64) {
+        if io::write_all(libc::STDOUT_FILENO, b"\n") {
+            let bytes = text.bytes;
+            return streams::write(&bytes, n);
+        }
     }
+    Course::Unwritten
 }
 
-fn write_text(text: printing::Text) {
-    let bytes = text.bytes;
-    write_part(&bytes, text.len);
+// A sheet that fills its room, and as many bytes more as there was no room for.
+fn answer(sheet: &mut [u8], more: usize) -> Course {
+    let taken = streams::fill_within(sheet);
+    if !streams::is_fine(taken) {
+        return taken;
+    }
+    let skipped = skip(more);
+    if !streams::is_fine(skipped) {
+        return skipped;
+    }
+    write_text(sheet::answer(sheet))
 }
 
-// A sheet that fills its room, and as many bytes more as there was no room for; false where the input ends before.
-fn answer(sheet: &mut [u8], more: usize) -> bool {
-    if io::read_full(libc::STDIN_FILENO, sheet) < sheet.len() {
-        return false;
+// A sheet of n bytes and its answer.
+fn answer_of(n: usize) -> Course {
+    // One byte more than a sheet may have is enough to know that it is too long.
+    let mut room = [0u8; 65537];
+    if n <= 65537 {
+        return answer(&mut room[0..n], 0);
     }
-    if !skip(more) {
-        return false;
-    }
-    write_text(sheet::answer(sheet));
-    true
+    answer(&mut room, n - 65537)
 }
 
-// One sheet and its answer; false at the end.
-fn turn(room: &mut [u8]) -> bool {
-    let length = take_length();
-    if !length.is_good {
-        return false;
-    }
-    let n = length.value;
-    if n <= room.len() {
-        return answer(&mut room[..n], 0);
-    }
-    let more = n - room.len();
-    answer(room, more)
-}
-
-fn answer_all(room: &mut [u8]) {
-    let mut is_done = false;
-    // Nothing says that the input ends, so the turns are counted down from a number that no run uses up.
-    let mut turns = u64::MAX;
-    while turns > 0 && !is_done {
-        is_done = !turn(room);
-        turns -= 1;
-    }
+// The n-th sheet; whether to go on.
+fn turn(n: u64) -> bool {
+    let course = match take_length() {
+        Length::Is(bytes) => answer_of(bytes),
+        Length::Not(course) => course,
+    };
+    streams::tell(b"many", b"sheet", n, course);
+    streams::is_fine(course)
 }
 
 fn main() {
-    // One byte more than a sheet may have is enough to know that it is too long.
-    let mut room = [0u8; 65537];
-    answer_all(&mut room);
+    // Nothing says that the input ends, so the sheets are counted up to a number that no run reaches.
+    let mut n: u64 = 1;
+    while n < u64::MAX && turn(n) {
+        n += 1;
+    }
 }

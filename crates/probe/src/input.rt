@@ -1,16 +1,10 @@
-// Bytes from standard input, and big-endian numbers in them.
+// Big-endian numbers in a list of bytes; past its end there are zeros.
 ghost use Prim.Native.Nat.{_<_};
 
-// Whether there were n more bytes, which then stand at the start of the room.
-pub fn fill(room: &mut [u8], n: usize) -> bool {
-    if room.len() < n {
-        return false;
-    }
-    io::read_full(libc::STDIN_FILENO, &mut room[..n]) == n
-}
-
-pub fn byte(list: &[u8], at: usize) -> u8 {
-    if at < list.len() { list[at] } else { 0 }
+pub fn byte(list: &[u8], at: usize) -> u32
+    ensures { λ r. ⌜ r < 256 ⌝ }
+{
+    if at < list.len() { wide(list[at]) } else { 0 }
 }
 
 fn wide(b: u8) -> u32
@@ -19,13 +13,15 @@ fn wide(b: u8) -> u32
     b as u32
 }
 
-// The number from one index up to another; of more than four bytes the last four count.
-pub fn number(list: &[u8], from: usize, to: usize) -> u32 {
-    let mut value: u32 = 0;
-    let mut i = from;
-    while i < to {
-        value = value % 16777216 * 256 + wide(byte(list, i));
-        i += 1;
-    }
-    value
+pub fn half(list: &[u8], at: usize) -> u32
+    requires { ⌜ at < 2000 ⌝ }
+    ensures { λ r. ⌜ r < 65536 ⌝ }
+{
+    byte(list, at) * 256 + byte(list, at + 1)
+}
+
+pub fn word(list: &[u8], at: usize) -> u32
+    requires { ⌜ at < 1500 ⌝ }
+{
+    half(list, at) * 65536 + half(list, at + 2)
 }

@@ -1,13 +1,17 @@
 // What a sheet cannot show: calls of the engine's entries with lists of any length and numbers of any size. Reads cases from
-// standard input (case.rt has their form) and writes each outcome, whole, to standard output (told.rt). The input's end, and
-// whatever is not of that form, end the program.
+// standard input (case.rt has their form) and writes each outcome, whole, to standard output (told.rt). The input may end between
+// two cases. Where it ends within one, is not of that form or cannot be read, and where an outcome cannot be written, standard
+// error has a line that says so, and the program ends.
+ghost use Prim.Native.Nat.{_≤_};
+
 mod case;
 mod input;
 mod told;
 
+use case::Head;
 use case::Scalars;
-use case::Sizes;
 use machine::Reply;
+use streams::Course;
 
 fn call(mem: &mut [u8], map: &mut [u16], regs: &mut [u32], is_run: bool, s: Scalars) -> Reply {
     if is_run {
@@ -16,74 +20,74 @@ fn call(mem: &mut [u8], map: &mut [u16], regs: &mut [u32], is_run: bool, s: Scal
     engine::step(mem, map, regs, s.pc, s.code, s.mask)
 }
 
-fn write_outcome(mem: &mut [u8], map: &mut [u16], regs: &mut [u32], is_run: bool, s: Scalars) {
+// A case whose lists stand: its pieces, and the call.
+fn finish(mem: &mut [u8], map: &mut [u16], regs: &mut [u32], is_run: bool, s: Scalars) -> Course {
+    let course = case::take_memory(mem, s.pieces);
+    if !streams::is_fine(course) {
+        return course;
+    }
     let reply = call(mem, map, regs, is_run, s);
-    told::write(reply, regs, map, mem);
+    told::write(reply, regs, map, mem)
 }
 
-// A case whose lists have their lengths. This and what calls it: false where the cases end.
-fn answer(mem: &mut [u8], map: &mut [u16], regs: &mut [u32], is_run: bool) -> bool {
-    if !case::take_lists(map, regs) {
-        return false;
-    }
-    let scalars = case::take_scalars();
-    if !scalars.is_good {
-        return false;
-    }
-    if !case::take_memory(mem, scalars.pieces) {
-        return false;
-    }
-    write_outcome(mem, map, regs, is_run, scalars);
-    true
+// A case whose head is good, with the bytes between its head and its pieces. What it does not name is zero.
+fn answer(head: Head, bytes: &[u8; 1346]) -> Course
+    requires { ⌜ (head .mem ≤ 270336) × (head .map ≤ 600) × (head .regs ≤ 32) ⌝ }
+{
+    let m = head.mem;
+    let w = head.map;
+    let r = head.regs;
+    let mut mem = [0u8; 270336];
+    let mut map = case::map_of(bytes);
+    let mut regs = case::regs_of(bytes, 2 * w);
+    let scalars = case::scalars_of(bytes, 2 * w + 4 * r);
+    finish(
+        &mut mem[0..m],
+        &mut map[0..w],
+        &mut regs[0..r],
+        head.kind == 1,
+        scalars,
+    )
 }
 
-// The lists are cut to their lengths one after the other.
-fn cut_regs(mem: &mut [u8], map: &mut [u16], regs: &mut [u32], sizes: Sizes) -> bool {
-    let n = sizes.regs;
-    if regs.len() < n {
-        return false;
+// A case after its head.
+fn answer_to(head: Head) -> Course {
+    if head.kind > 1 {
+        return Course::Malformed;
     }
-    answer(mem, map, &mut regs[..n], sizes.is_run)
+    if head.mem > 270336 {
+        return Course::Malformed;
+    }
+    if head.map > 600 {
+        return Course::Malformed;
+    }
+    if head.regs > 32 {
+        return Course::Malformed;
+    }
+    let mut bytes = [0u8; 1346];
+    let n = 2 * head.map + 4 * head.regs + 18;
+    let course = streams::fill_within(&mut bytes[0..n]);
+    if !streams::is_fine(course) {
+        return course;
+    }
+    answer(head, &bytes)
 }
 
-fn cut_map(mem: &mut [u8], map: &mut [u16], regs: &mut [u32], sizes: Sizes) -> bool {
-    let n = sizes.map;
-    if map.len() < n {
-        return false;
+// The n-th case; whether to go on.
+fn turn(n: u64) -> bool {
+    let mut bytes = [0u8; 8];
+    let mut course = streams::fill(&mut bytes);
+    if streams::is_fine(course) {
+        course = answer_to(case::head_of(&bytes));
     }
-    cut_regs(mem, &mut map[..n], regs, sizes)
-}
-
-fn cut_mem(mem: &mut [u8], map: &mut [u16], regs: &mut [u32], sizes: Sizes) -> bool {
-    let n = sizes.mem;
-    if mem.len() < n {
-        return false;
-    }
-    cut_map(&mut mem[..n], map, regs, sizes)
-}
-
-// One case and its outcome.
-fn turn(mem: &mut [u8], map: &mut [u16], regs: &mut [u32]) -> bool {
-    let sizes = case::take_sizes();
-    if !sizes.is_good {
-        return false;
-    }
-    cut_mem(mem, map, regs, sizes)
-}
-
-fn answer_all(mem: &mut [u8], map: &mut [u16], regs: &mut [u32]) {
-    let mut is_done = false;
-    // Nothing says that the input ends, so the turns are counted down from a number that no run uses up.
-    let mut turns = u64::MAX;
-    while turns > 0 && !is_done {
-        is_done = !turn(mem, map, regs);
-        turns -= 1;
-    }
+    streams::tell(b"probe", b"case", n, course);
+    streams::is_fine(course)
 }
 
 fn main() {
-    let mut mem = [0u8; 270336];
-    let mut map = [0u16; 600];
-    let mut regs = [0u32; 32];
-    answer_all(&mut mem, &mut map, &mut regs);
+    // Nothing says that the input ends, so the cases are counted up to a number that no run reaches.
+    let mut n: u64 = 1;
+    while n < u64::MAX && turn(n) {
+        n += 1;
+    }
 }

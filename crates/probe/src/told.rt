@@ -5,78 +5,49 @@
 //     REGS all of them
 //     MAP all page words
 //     MEMORY its checksum
+//
+// The functions that put a part of it hand back the place after it; an outcome has room.
 ghost use Prim.Native.Nat.{_<_};
 use machine::Reply;
+use printing::digits::put_decimal;
+use printing::lines::last_decimal;
+use printing::lines::named;
+use printing::writing::put;
+use printing::writing::put_all;
+use streams::Course;
 
-// `fill` is how many bytes of the text are there; each function hands it on. An outcome has room.
-fn put(out: &mut [u8; 8192], fill: usize, b: u8) -> usize {
-    if fill < 8192 {
-        out[fill] = b;
-        return fill + 1;
-    }
-    fill
+fn put_line(out: &mut [u8], at: usize, name: &[u8], a: u32, b: u32, c: u32) -> usize {
+    let one = named(out, at, name, a as usize);
+    let two = put_decimal(out, one, b as usize);
+    last_decimal(out, two, c as usize)
 }
 
-fn put_all(out: &mut [u8; 8192], fill: usize, text: &[u8]) -> usize {
-    let mut next = fill;
-    let mut i = 0;
-    while i < text.len() {
-        next = put(out, next, text[i]);
-        i += 1;
-    }
-    next
-}
-
-fn put_decimal(out: &mut [u8; 8192], fill: usize, n: u64) -> usize {
-    let mut text = [0u8; 20];
-    let k = io::decimal(n, &mut text);
-    put_all(out, fill, &text[..k])
-}
-
-fn put_field(out: &mut [u8; 8192], fill: usize, n: u64) -> usize {
-    let next = put(out, fill, b'\t');
-    put_decimal(out, next, n)
-}
-
-fn put_line(out: &mut [u8; 8192], fill: usize, name: &[u8], a: u32, b: u32, c: u32) -> usize {
-    let named = put_all(out, fill, name);
-    let one = put_field(out, named, a as u64);
-    let two = put_field(out, one, b as u64);
-    let three = put_field(out, two, c as u64);
-    put(out, three, b'\n')
-}
-
-fn put_reply(out: &mut [u8; 8192], fill: usize, r: Reply) -> usize {
-    let next = put_line(out, fill, b"ANSWER", r.number, r.place, r.count);
-    put_line(out, next, b"STATE", r.pc, r.code, r.mask)
-}
-
-fn wide_word(v: u32) -> u64 {
-    v as u64
-}
-
-fn wide_half(v: u16) -> u64 {
-    v as u64
-}
-
-fn put_regs(out: &mut [u8; 8192], fill: usize, regs: &[u32]) -> usize {
-    let mut next = put_all(out, fill, b"REGS");
+fn put_regs(out: &mut [u8], at: usize, regs: &[u32]) -> usize {
+    let mut next = put_all(out, at, b"REGS");
     let mut i = 0;
     while i < regs.len() {
-        next = put_field(out, next, wide_word(regs[i]));
+        next = put_decimal(out, next, wide_word(regs[i]));
         i += 1;
     }
     put(out, next, b'\n')
 }
 
-fn put_map(out: &mut [u8; 8192], fill: usize, map: &[u16]) -> usize {
-    let mut next = put_all(out, fill, b"MAP");
+fn put_map(out: &mut [u8], at: usize, map: &[u16]) -> usize {
+    let mut next = put_all(out, at, b"MAP");
     let mut i = 0;
     while i < map.len() {
-        next = put_field(out, next, wide_half(map[i]));
+        next = put_decimal(out, next, wide_half(map[i]));
         i += 1;
     }
     put(out, next, b'\n')
+}
+
+fn wide_word(v: u32) -> usize {
+    v as usize
+}
+
+fn wide_half(v: u16) -> usize {
+    v as usize
 }
 
 fn wide(b: u8) -> u64
@@ -97,27 +68,20 @@ fn checksum(mem: &[u8]) -> u64 {
     sum
 }
 
-fn put_lists(out: &mut [u8; 8192], fill: usize, regs: &[u32], map: &[u16], mem: &[u8]) -> usize {
-    let first = put_regs(out, fill, regs);
-    let second = put_map(out, first, map);
-    let named = put_all(out, second, b"MEMORY");
-    let third = put_field(out, named, checksum(mem));
-    put(out, third, b'\n')
+fn put_memory(out: &mut [u8], at: usize, mem: &[u8]) -> usize {
+    let mut text = [0u8; 20];
+    let k = io::decimal(checksum(mem), &mut text);
+    let one = put_all(out, at, b"MEMORY\t");
+    let two = put_all(out, one, &text[..k]);
+    put(out, two, b'\n')
 }
 
-fn write_first(bytes: &[u8], n: usize) {
-    if n <= bytes.len() {
-        io::write_all(libc::STDOUT_FILENO, &bytes[..n]);
-    }
-}
-
-fn write_text(out: &[u8; 8192], fill: usize) {
-    write_first(out, fill);
-}
-
-pub fn write(r: Reply, regs: &[u32], map: &[u16], mem: &[u8]) {
+pub fn write(r: Reply, regs: &[u32], map: &[u16], mem: &[u8]) -> Course {
     let mut out = [0u8; 8192];
-    let first = put_reply(&mut out, 0, r);
-    let all = put_lists(&mut out, first, regs, map, mem);
-    write_text(&out, all);
+    let one = put_line(&mut out, 0, b"ANSWER", r.number, r.place, r.count);
+    let two = put_line(&mut out, one, b"STATE", r.pc, r.code, r.mask);
+    let three = put_regs(&mut out, two, regs);
+    let four = put_map(&mut out, three, map);
+    let five = put_memory(&mut out, four, mem);
+    streams::write(&out, five)
 }

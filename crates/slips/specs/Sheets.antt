@@ -1,7 +1,7 @@
 -- Slips in reading a sheet: of `reading::read_sheet`, and of what it stands on.
 use Prim.Native.Nat.{ℕ, _+_, _-_}
 use Prim.Native.String.{String}
-use mathlib.Core.Bool.{Bool, false}
+use mathlib.Core.Bool.{Bool, true, false}
 use mathlib.Core.List.{List, [], _∷_, _++_}
 use lib.Dec.{eqb, leb, ltb}
 use lib.ListN.{length, getD, replicate}

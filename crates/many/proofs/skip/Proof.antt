@@ -6,31 +6,43 @@ use Rattle.many.proofs.skip.Statement.{statement}
 use Rattle.many.proofs.skip.Tie as tie
 
 abbrev Inv-loop : tie.InvT-loop
-Inv-loop bytes byte₀ left₀ byte left = 1 ≡ length byte
+Inv-loop n chunk₀ left₀ chunk left = 4096 ≡ length chunk
 
 abbrev μ-loop : tie.MeasureT-loop
-μ-loop bytes byte₀ left₀ byte left = left
+μ-loop n chunk₀ left₀ chunk left = left
 
 loop-holds : tie.Need-loop-holds Inv-loop μ-loop
 loop-holds c = search needs
 
-slice-aggregate-read-full : tie.Need-slice-aggregate-read-full Inv-loop μ-loop
-slice-aggregate-read-full c = search needs
+slice-aggregate-fill-within : tie.Need-slice-aggregate-fill-within Inv-loop μ-loop
+slice-aggregate-fill-within c = search needs
 
-read-full-requires : tie.Need-read-full-requires Inv-loop μ-loop
-read-full-requires c κs = search needs
+fill-within-requires : tie.Need-fill-within-requires Inv-loop μ-loop
+fill-within-requires c κs = search needs
+
+is-fine-requires : tie.Need-is-fine-requires Inv-loop μ-loop
+is-fine-requires c κs = search needs
 
 returns : tie.Need-returns Inv-loop μ-loop
 returns c = search needs
-
-sub-left : tie.Need-sub-left Inv-loop μ-loop
-sub-left c = search needs
 
 loop-less : tie.Need-loop-less Inv-loop μ-loop
 loop-less c = search needs
 
 loop-again : tie.Need-loop-again Inv-loop μ-loop
 loop-again c = search needs
+
+sub-fill-within : tie.Need-sub-fill-within Inv-loop μ-loop
+sub-fill-within c = search needs
+
+part-chunk-start : tie.Need-part-chunk-start Inv-loop μ-loop
+part-chunk-start c = search needs
+
+part-chunk-end : tie.Need-part-chunk-end Inv-loop μ-loop
+part-chunk-end c = search needs
+
+fill-within-requires-2 : tie.Need-fill-within-requires-2 Inv-loop μ-loop
+fill-within-requires-2 c κs = search needs
 
 returns-2 : tie.Need-returns-2 Inv-loop μ-loop
 returns-2 c = search needs
@@ -42,10 +54,14 @@ skip-spec =
     Inv-loop
     μ-loop
     loop-holds
-    slice-aggregate-read-full
-    read-full-requires
+    slice-aggregate-fill-within
+    fill-within-requires
+    is-fine-requires
     returns
-    sub-left
     loop-less
     loop-again
+    sub-fill-within
+    part-chunk-start
+    part-chunk-end
+    fill-within-requires-2
     returns-2)

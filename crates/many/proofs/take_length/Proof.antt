@@ -16,11 +16,23 @@ loop-holds c = search needs
 take-byte-requires : tie.Need-take-byte-requires Inv-loop μ-loop
 take-byte-requires c κs = search needs
 
+enum-known-course : tie.Need-enum-known-course Inv-loop μ-loop
+enum-known-course c = search needs
+
 returns : tie.Need-returns Inv-loop μ-loop
 returns c = search needs
 
+enum-known-b : tie.Need-enum-known-b Inv-loop μ-loop
+enum-known-b c = search needs
+
+returns-2 : tie.Need-returns-2 Inv-loop μ-loop
+returns-2 c = search needs
+
 is-digit-requires : tie.Need-is-digit-requires Inv-loop μ-loop
 is-digit-requires c κs = search needs
+
+returns-3 : tie.Need-returns-3 Inv-loop μ-loop
+returns-3 c = search needs
 
 mul-value : tie.Need-mul-value Inv-loop μ-loop
 mul-value c = search needs
@@ -40,11 +52,8 @@ loop-less c = search needs
 loop-again : tie.Need-loop-again Inv-loop μ-loop
 loop-again c = search needs
 
-returns-2 : tie.Need-returns-2 Inv-loop μ-loop
-returns-2 c = search needs
-
-returns-3 : tie.Need-returns-3 Inv-loop μ-loop
-returns-3 c = search needs
+returns-4 : tie.Need-returns-4 Inv-loop μ-loop
+returns-4 c = search needs
 
 pub take-length-spec : {M : Type 1} → statement M
 take-length-spec =
@@ -54,13 +63,16 @@ take-length-spec =
     μ-loop
     loop-holds
     take-byte-requires
+    enum-known-course
     returns
+    enum-known-b
+    returns-2
     is-digit-requires
+    returns-3
     mul-value
     digit-requires
     add-value
     add-digits
     loop-less
     loop-again
-    returns-2
-    returns-3)
+    returns-4)

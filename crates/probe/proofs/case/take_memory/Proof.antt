@@ -11,14 +11,14 @@ Inv-loop mem₀ pieces left₀ mem left = length mem ≡ length mem₀
 abbrev μ-loop : tie.MeasureT-loop
 μ-loop mem₀ pieces left₀ mem left = left
 
-clear-requires : tie.Need-clear-requires Inv-loop μ-loop
-clear-requires c κs = search needs
-
 loop-holds : tie.Need-loop-holds Inv-loop μ-loop
 loop-holds c = search needs
 
 take-piece-requires : tie.Need-take-piece-requires Inv-loop μ-loop
 take-piece-requires c κs = search needs
+
+is-fine-requires : tie.Need-is-fine-requires Inv-loop μ-loop
+is-fine-requires c κs = search needs
 
 same-length : tie.Need-same-length Inv-loop μ-loop
 same-length c = search needs
@@ -47,9 +47,9 @@ take-memory-spec =
     (tie.spec
     Inv-loop
     μ-loop
-    clear-requires
     loop-holds
     take-piece-requires
+    is-fine-requires
     same-length
     returns
     sub-left

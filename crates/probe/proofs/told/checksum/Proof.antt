@@ -1,7 +1,7 @@
 -- The measure is what is left of the memory.
 use Prim.Native.Nat.{_-_}
-use borrow.Author.Needs.{needs}
 use lib.ListN.{length}
+use borrow.Author.Needs.{needs}
 use Rattle.probe.proofs.told.checksum.Statement.{statement}
 use Rattle.probe.proofs.told.checksum.Tie as tie
 

@@ -1,15 +1,16 @@
 -- The measure is how many page words are left.
+use mathlib.Core.Path.{_≡_}
 use Prim.Native.Nat.{_-_}
-use borrow.Author.Needs.{needs}
 use lib.ListN.{length}
+use borrow.Author.Needs.{needs}
 use Rattle.probe.proofs.told.put_map.Statement.{statement}
 use Rattle.probe.proofs.told.put_map.Tie as tie
 
 abbrev Inv-loop : tie.InvT-loop
-Inv-loop out₀ fill map next₀ i₀ out next i = Unit {0}
+Inv-loop out₀ at map next₀ i₀ out next i = length out ≡ length out₀
 
 abbrev μ-loop : tie.MeasureT-loop
-μ-loop out₀ fill map next₀ i₀ out next i = length map - i
+μ-loop out₀ at map next₀ i₀ out next i = length map - i
 
 slice-aggregate-put-all : tie.Need-slice-aggregate-put-all Inv-loop μ-loop
 slice-aggregate-put-all c = search needs
@@ -29,8 +30,8 @@ shared-slice-read-wide-half c = search needs
 wide-half-requires : tie.Need-wide-half-requires Inv-loop μ-loop
 wide-half-requires c κs = search needs
 
-put-field-requires : tie.Need-put-field-requires Inv-loop μ-loop
-put-field-requires c κs = search needs
+put-decimal-requires : tie.Need-put-decimal-requires Inv-loop μ-loop
+put-decimal-requires c κs = search needs
 
 add-i : tie.Need-add-i Inv-loop μ-loop
 add-i c = search needs
@@ -43,6 +44,9 @@ loop-again c = search needs
 
 put-requires : tie.Need-put-requires Inv-loop μ-loop
 put-requires c κs = search needs
+
+same-length : tie.Need-same-length Inv-loop μ-loop
+same-length c = search needs
 
 returns : tie.Need-returns Inv-loop μ-loop
 returns c = search needs
@@ -59,9 +63,10 @@ put-map-spec =
     mul-wide-half
     shared-slice-read-wide-half
     wide-half-requires
-    put-field-requires
+    put-decimal-requires
     add-i
     loop-less
     loop-again
     put-requires
+    same-length
     returns)
