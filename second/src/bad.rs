@@ -1,6 +1,6 @@
 //! Sheets that break the rules for sheets, or come just short of it.
 
-use crate::dice::Dice;
+use common::dice::Dice;
 
 /// The good sheet from which the list is made.
 const LINES: [&str; 9] = [

@@ -1,9 +1,9 @@
 //! The list of generated sheets for a seed.
 
 use crate::bad;
-use crate::dice::Dice;
 use crate::programs;
 use crate::sweeps::SWEEPS;
+use common::dice::Dice;
 
 /// A generated sheet and what it was made for.
 pub struct Made {
@@ -52,7 +52,7 @@ impl Generator {
     pub fn make(&mut self) -> Made {
         let index = self.index;
         self.index += 1;
-        let mut dice = Dice::for_sheet(self.seed, index);
+        let mut dice = Dice::for_one(self.seed, index);
         match index % 10 {
             0..=5 => self.next_sweep(&mut dice),
             6 => Made {

@@ -7,7 +7,6 @@
 
 pub mod bad;
 pub mod census;
-pub mod dice;
 pub mod draft;
 pub mod edges;
 pub mod generate;

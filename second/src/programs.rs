@@ -1,10 +1,10 @@
 //! Sheets thrown wholly by dice: longer programs that mostly work, wild
 //! bytes that mostly do not, and a few long runs.
 
-use crate::dice::Dice;
 use crate::draft::{rr, rs, rx, si, ss, Draft};
 use crate::operations::{self as op, Form, OPERATIONS};
 use crate::scene::{fault_word, open_word, Scene, FAULTS};
+use common::dice::Dice;
 
 /// A program of several instructions on shared pointers, its stores folded
 /// into a register at the end.

@@ -2,10 +2,10 @@
 //! other, and registers not yet spoken for. The sweeps write their
 //! instructions into a scene.
 
-use crate::dice::Dice;
 use crate::draft::{rr, rs, rx, si, ss, Draft};
 use crate::machine::{E, FRAME, G, H, M, S, U, W, XXX};
 use crate::operations::{self as op, Form};
+use common::dice::Dice;
 
 pub const ADDRESS_BITS: u32 = 0x00FF_FFFF;
 pub const OPEN: u16 = U | S;
@@ -29,21 +29,7 @@ pub struct Scene {
 
 impl Scene {
     pub fn new(dice: &mut Dice) -> Scene {
-        let code_page = match dice.below(3) {
-            0 => 10,
-            1 => dice.pick(&[0, 1, 9, 63, 64, 110, 127, 255, 256, 448, 509]),
-            _ => dice.below(510),
-        };
-        let data_page = loop {
-            let page = match dice.below(3) {
-                0 => 20,
-                1 => dice.pick(&[0, 2, 62, 63, 128, 383, 505, 509]),
-                _ => dice.below(510),
-            };
-            if page > code_page + 1 || page + 1 < code_page {
-                break page;
-            }
-        };
+        let (code_page, data_page) = two_pages(dice);
         let mut frames: Vec<u16> = (0..16).collect();
         dice.shuffle(&mut frames);
         let mut scene = Scene {
@@ -58,7 +44,7 @@ impl Scene {
                 0
             },
             code: Vec::new(),
-            free: dice.register_order(),
+            free: registers_in_some_order(dice),
             steps: 0,
         };
         let word = open_word(dice, scene.code_frames[0], false);
@@ -418,6 +404,32 @@ impl Scene {
         self.put(start, &code);
         self.draft.counter = start;
     }
+}
+
+/// A page for code and one for data; neither is the one after the other.
+fn two_pages(dice: &mut Dice) -> (u32, u32) {
+    let code_page = match dice.below(3) {
+        0 => 10,
+        1 => dice.pick(&[0, 1, 9, 63, 64, 110, 127, 255, 256, 448, 509]),
+        _ => dice.below(510),
+    };
+    loop {
+        let page = match dice.below(3) {
+            0 => 20,
+            1 => dice.pick(&[0, 2, 62, 63, 128, 383, 505, 509]),
+            _ => dice.below(510),
+        };
+        if page > code_page + 1 || page + 1 < code_page {
+            return (code_page, page);
+        }
+    }
+}
+
+/// The numbers 1 to 15 in some order.
+fn registers_in_some_order(dice: &mut Dice) -> Vec<u8> {
+    let mut order: Vec<u8> = (1..16).collect();
+    dice.shuffle(&mut order);
+    order
 }
 
 /// The word of an open page: marks may be up already, H may be up without M.

@@ -7,16 +7,10 @@
 //!
 //! where FOLDER is for its files, PROGRAMS are letters, and WITHOUT says why there is no Hercules, or is empty.
 
-// How the witness starts other programs; not all of it is needed here.
-#[allow(dead_code)]
-#[path = "../../witness/src/bounded.rs"]
-mod bounded;
-
 mod cases;
 mod check;
 mod clock;
 mod counts;
-mod dice;
 mod differ;
 mod engine;
 mod hercules;
@@ -25,7 +19,6 @@ mod ordinary;
 mod programs;
 mod proved;
 mod table;
-mod talk;
 mod timing;
 
 use engine::ENGINES;

@@ -2,6 +2,7 @@
 //! R12 holds the code's address and R11 the number of rounds; a program ends on the zeros behind it, which are no operation.
 
 use crate::machine::{Machine, PAGE};
+use common::bytes::from_hex;
 
 pub struct Program {
     pub name: char,
@@ -130,15 +131,6 @@ pub const PROGRAMS: [Program; 7] = [
         instructions: 1127,
     },
 ];
-
-pub fn from_hex(text: &str) -> Vec<u8> {
-    let digits: Vec<u8> = text
-        .chars()
-        .filter_map(|c| c.to_digit(16))
-        .map(|digit| digit as u8)
-        .collect();
-    digits.chunks(2).map(|two| two[0] << 4 | two[1]).collect()
-}
 
 fn frame(machine: &mut Machine, page: usize) -> &mut [u8] {
     let number = usize::from(machine.map[page] & 0x3F);

@@ -1,7 +1,9 @@
 //! One case, held against both.
 
 use crate::case::{After, Case, End, ZONE_AT};
-use crate::engine::{checksum, memory, Outcome};
+use crate::engine::{memory, Outcome};
+use common::bytes::to_hex;
+use common::probe::checksum;
 
 /// Everything in which the engine and Hercules differ, in words; nothing if they agree.
 pub fn differences(case: &Case, hercules: &After, engine: &Outcome) -> Vec<String> {
@@ -49,10 +51,6 @@ fn can_overflow(code: u8) -> bool {
     matches!(code, 0x10 | 0x13 | 0x1A | 0x1B | 0x5A | 0x5B)
 }
 
-fn hex(bytes: &[u8]) -> String {
-    bytes.iter().map(|byte| format!("{byte:02X}")).collect()
-}
-
 /// The case as a reader needs it: what stood where, and which of the own bytes Hercules changed.
 pub fn tell(case: &Case, hercules: &After, engine: &Outcome) -> String {
     let regs: Vec<String> = case.regs.iter().map(|word| format!("{word:08X}")).collect();
@@ -60,7 +58,7 @@ pub fn tell(case: &Case, hercules: &After, engine: &Outcome) -> String {
         "{} case {}: {} at {:06X}, code {}, mask {}, own bytes from {:06X}\n  registers {}\n  Hercules {:X?}; engine {} at {:06X}, then {:06X}\n",
         case.instruction.name,
         case.number,
-        hex(case.text()),
+        to_hex(case.text()),
         case.counter,
         case.code,
         case.mask,

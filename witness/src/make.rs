@@ -2,7 +2,8 @@
 
 use crate::case::Case;
 use crate::draft::Draft;
-use crate::set::{Instruction, Shape};
+use crate::draw::Draw;
+use common::set::{Instruction, Shape};
 
 pub fn make(instruction: &'static Instruction, number: usize, window_at: u32) -> Case {
     let mut draft = Draft::new(instruction, number, window_at);
@@ -167,8 +168,8 @@ fn immediate(draft: &mut Draft, stores: bool) -> Vec<u8> {
         1 => !byte,
         2 => byte.wrapping_add(1),
         3 => byte.wrapping_sub(1),
-        4 => byte & draft.dice.byte(),
-        _ => draft.dice.byte(),
+        4 => byte & draft.dice.content_byte(),
+        _ => draft.dice.content_byte(),
     };
     four((given >> 4).into(), (given & 15).into(), base, displacement)
 }

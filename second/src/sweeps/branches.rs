@@ -1,10 +1,10 @@
 //! Sweeps over the branches.
 
 use super::BRANCHES;
-use crate::dice::{Dice, EDGE_WORDS};
 use crate::draft::{rr, rs, rx, Draft};
 use crate::operations::{self as op};
 use crate::scene::{fault_word, Scene, OPEN};
+use common::dice::{Dice, EDGE_WORDS};
 
 pub fn conditions(case: u32, dice: &mut Dice) -> Draft {
     let mask = (case % 16) as u8;

@@ -1,11 +1,11 @@
 //! Sweeps over long operands: moves, compares, LM and STM.
 
 use super::keep_code;
-use crate::dice::Dice;
 use crate::draft::{rs, rx, si, ss, Draft};
 use crate::machine::{E, G, H, M, W};
 use crate::operations::{self as op};
 use crate::scene::{fault_word, open_word, Scene, FAULTS, OPEN};
+use common::dice::Dice;
 
 /// A move or compare with one field or both in a bad page, at once or from
 /// the second page on.

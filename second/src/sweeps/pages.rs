@@ -1,11 +1,11 @@
 //! Sweeps over page words, addresses and fetches.
 
 use super::{keep_code, MEMORY_OPS};
-use crate::dice::Dice;
 use crate::draft::{rr, rx, si, ss, Draft};
 use crate::machine::{H, M};
 use crate::operations::{self as op, OPERATIONS};
 use crate::scene::{fault_word, open_word, Scene, ADDRESS_BITS, FAULTS, OPEN};
+use common::dice::Dice;
 
 /// Each operation with a memory operand against each kind of page word.
 pub fn operand_words(case: u32, dice: &mut Dice) -> Draft {

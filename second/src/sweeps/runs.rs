@@ -1,9 +1,9 @@
 //! Sweeps over operation codes, budgets and programs that change themselves.
 
-use crate::dice::Dice;
 use crate::draft::{rr, rs, rx, si, ss, Draft};
 use crate::operations::{self as op};
 use crate::scene::{fault_word, Scene, FAULTS, OPEN};
+use common::dice::Dice;
 
 /// Every operation byte, the page after absent or there.
 pub fn operation_bytes(case: u32, dice: &mut Dice) -> Draft {

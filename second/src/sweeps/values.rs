@@ -1,10 +1,10 @@
 //! Sweeps over values: registers, words, bytes, shifts and address sums.
 
 use super::{keep_code, BYTE_OPS, REGISTER_OPS, WORD_OPS};
-use crate::dice::{Dice, EDGE_BYTES, EDGE_WORDS};
 use crate::draft::{rr, rs, rx, si, ss, Draft};
 use crate::operations::{self as op, Form, OPERATIONS};
 use crate::scene::{open_word, Scene, OPEN};
+use common::dice::{Dice, EDGE_BYTES, EDGE_WORDS};
 
 pub fn register_values(case: u32, dice: &mut Dice) -> Draft {
     let code = REGISTER_OPS[(case / 64) as usize];

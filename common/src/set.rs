@@ -1,4 +1,4 @@
-//! The fifty instructions of the base set, and what kind of case each needs.
+//! The fifty instructions of the base set, and what kind of case each needs. (The second program has a table of its own.)
 
 /// What an instruction does with its fields, as far as a case must know.
 #[derive(Clone, Copy, Debug, PartialEq, Eq)]
@@ -103,9 +103,18 @@ pub const SET: [Instruction; 50] = [
     row("BXLE", 0x87, Shape::IndexBranch),
 ];
 
+/// An instruction's bytes, by the top two bits of its operation code.
+pub fn length(code: u8) -> usize {
+    match code >> 6 {
+        0 => 2,
+        3 => 6,
+        _ => 4,
+    }
+}
+
 #[cfg(test)]
 mod tests {
-    use super::SET;
+    use super::{length, Shape, SET};
 
     #[test]
     fn no_name_or_code_stands_twice() {
@@ -113,6 +122,18 @@ mod tests {
             for other in &SET[i + 1..] {
                 assert!(one.name != other.name && one.code != other.code);
             }
+        }
+    }
+
+    #[test]
+    fn lengths_fit_the_shapes() {
+        for one in &SET {
+            let wanted = match one.shape {
+                Shape::Registers | Shape::RegisterBranch => 2,
+                Shape::Fields { .. } => 6,
+                _ => 4,
+            };
+            assert_eq!(length(one.code), wanted, "{}", one.name);
         }
     }
 }
