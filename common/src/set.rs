@@ -25,7 +25,7 @@ pub enum Shape {
     Fields { stores: bool },
 }
 
-#[derive(Debug)]
+#[derive(Clone, Copy, Debug)]
 pub struct Instruction {
     pub name: &'static str,
     pub code: u8,

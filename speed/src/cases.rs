@@ -14,7 +14,7 @@ pub struct Case {
 }
 
 /// Displacements near the ends of pages, half pages, and fields that reach over them.
-const EDGES: [u32; 14] = [
+const DISPLACEMENTS: [u32; 14] = [
     0, 2, 4, 0x100, 0x700, 0x7C0, 0x7FA, 0x7FC, 0x7FE, 0x800, 0xF00, 0xFC0, 0xFFC, 0xFFE,
 ];
 
@@ -107,7 +107,7 @@ fn address(dice: &mut Dice) -> u32 {
     let near = match dice.below(20) {
         0 => dice.pick(&FAR),
         1 | 2 => dice.word() & 0x1F_FFFF,
-        _ => dice.below(512) << 12 | dice.pick(&EDGES),
+        _ => dice.below(512) << 12 | dice.pick(&DISPLACEMENTS),
     };
     match dice.below(4) {
         0 => near + dice.below(4),
@@ -128,7 +128,7 @@ fn counter(dice: &mut Dice) -> u32 {
     match dice.below(40) {
         0 => address(dice) & 0xFF_FFFF | 1,
         1 => dice.pick(&FAR),
-        _ => (dice.below(512) << 12) + dice.pick(&EDGES),
+        _ => (dice.below(512) << 12) + dice.pick(&DISPLACEMENTS),
     }
 }
 

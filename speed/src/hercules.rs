@@ -2,7 +2,7 @@
 
 use crate::clock;
 use crate::machine::{Machine, PAGE};
-use crate::programs::{Program, PAGES};
+use crate::programs::{Program, PAGE_FRAMES};
 use common::bytes::{from_hex, put};
 use common::hercules::{run, Ended, OldPsw};
 use std::path::PathBuf;
@@ -41,7 +41,7 @@ fn storage(machine: &Machine) -> Vec<u8> {
     for (i, word) in machine.registers.iter().enumerate() {
         put(&mut storage, REGISTERS + 4 * i, &word.to_be_bytes());
     }
-    for (page, frame) in PAGES {
+    for (page, frame) in PAGE_FRAMES {
         let bytes = &machine.memory[frame * PAGE..][..PAGE];
         put(&mut storage, page * PAGE, bytes);
     }
@@ -65,7 +65,7 @@ fn difference(storage: &[u8], machine: &Machine) -> Option<String> {
     let other = |&&(page, frame): &&(usize, usize)| {
         storage[page * PAGE..][..PAGE] != machine.memory[frame * PAGE..][..PAGE]
     };
-    PAGES
+    PAGE_FRAMES
         .iter()
         .find(other)
         .map(|(page, _)| format!("a byte of page {page} differs"))

@@ -122,6 +122,10 @@ fn once(engine: &str, letters: &str, rounds: &str) -> Result<(), Trouble> {
 fn main() -> ExitCode {
     let words: Vec<String> = env::args().skip(1).collect();
     let words: Vec<&str> = words.iter().map(String::as_str).collect();
+    if let Err(wrong) = spectra46::check_library() {
+        eprintln!("speed: {wrong}");
+        return ExitCode::from(2);
+    }
     let done = match words[..] {
         ["table", folder, letters, without, repeats] => times(folder, letters, without, repeats),
         ["check", folder, letters, without] => check(folder, letters, without),

@@ -30,7 +30,7 @@ enum Data {
 }
 
 /// A page, its frame, and so that the map has something to do, not the frame of its own number.
-pub const PAGES: [(usize, usize); 3] = [(2, 7), (4, 9), (5, 3)];
+pub const PAGE_FRAMES: [(usize, usize); 3] = [(2, 7), (4, 9), (5, 3)];
 const OPEN: u16 = 0x3000;
 const CODE: u32 = 0x2000;
 const MEMORY: usize = 65_536;
@@ -147,7 +147,7 @@ impl Program {
     /// The machine before so many rounds, at least one.
     pub fn machine(&self, rounds: u32) -> Machine {
         let mut machine = Machine::new(MEMORY);
-        for (page, number) in PAGES {
+        for (page, number) in PAGE_FRAMES {
             machine.map[page] = OPEN | number as u16;
         }
         let code = from_hex(&self.code.concat());
