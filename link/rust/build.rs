@@ -29,9 +29,7 @@ fn folder() -> Result<PathBuf, String> {
             return Err("SPECTRA46_LIB has to name a folder from the root on".to_string());
         }
         Some(given) => PathBuf::from(given),
-        None => PathBuf::from(env::var_os("CARGO_MANIFEST_DIR").expect("cargo sets it"))
-            .join("../../target")
-            .join(place),
+        None => top().join("target").join(place),
     };
     if folder.join("libouter.a").is_file() {
         return Ok(folder);
@@ -40,6 +38,12 @@ fn folder() -> Result<PathBuf, String> {
     Err(format!(
         "no libouter.a in {shown}: run '{command}' at the top of the repository, or let SPECTRA46_LIB name the folder that has it"
     ))
+}
+
+/// The repository's top, two folders above this one.
+fn top() -> PathBuf {
+    let here = PathBuf::from(env::var_os("CARGO_MANIFEST_DIR").expect("cargo sets it"));
+    here.ancestors().nth(2).unwrap_or(&here).to_path_buf()
 }
 
 fn link(folder: &Path) {
