@@ -5,6 +5,7 @@
 //! machine can also be used by itself, with other memory sizes and one step
 //! at a time.
 
+mod actions;
 pub mod bad;
 pub mod census;
 pub mod draft;
@@ -17,6 +18,7 @@ pub mod operations;
 pub mod print;
 pub mod probe;
 pub mod programs;
+mod results;
 pub mod scene;
 pub mod sheet;
 pub mod sweeps;
