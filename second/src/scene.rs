@@ -270,81 +270,9 @@ impl Scene {
             return vec![code, dice.byte()];
         };
         match row.form {
-            Form::RR => match code {
-                op::BCR | op::BALR | op::BCTR => {
-                    let next = self.here().wrapping_add(2);
-                    let r1 = if dice.chance(1, 8) {
-                        0
-                    } else {
-                        let taken = self.take();
-                        let value = dice.edge_word();
-                        self.draft.register(taken, value);
-                        taken
-                    };
-                    let r2 = match dice.below(6) {
-                        0 => 0,
-                        1 if r1 != 0 => {
-                            self.draft.register(r1, next);
-                            r1
-                        }
-                        _ => self.pointer(dice, next),
-                    };
-                    let r1 = if code == op::BCR {
-                        dice.below(16) as u8
-                    } else {
-                        r1
-                    };
-                    rr(code, r1, r2)
-                }
-                _ => {
-                    let r1 = self.valued(dice);
-                    let r2 = if dice.chance(1, 8) {
-                        r1
-                    } else {
-                        self.valued(dice)
-                    };
-                    rr(code, r1, r2)
-                }
-            },
-            Form::RX => match code {
-                op::BC | op::BAL | op::BCT => {
-                    let next = self.here().wrapping_add(4);
-                    let (x, b, d) = self.indexed(dice, next);
-                    let r1 = self.valued(dice);
-                    rx(code, r1, x, b, d)
-                }
-                _ => {
-                    let (x, b, d) = self.indexed(dice, target);
-                    let r1 = if b != 0 && dice.chance(1, 12) {
-                        b
-                    } else {
-                        self.valued(dice)
-                    };
-                    rx(code, r1, x, b, d)
-                }
-            },
-            Form::RS => match code {
-                op::SLL | op::SRL => {
-                    let amount = dice.pick(&[0, 1, 8, 31, 32, 63, 64, 100]);
-                    let (b, d) = self.based(dice, amount);
-                    let r1 = self.valued(dice);
-                    rs(code, r1, dice.below(16) as u8, b, d)
-                }
-                op::BXH | op::BXLE => {
-                    let next = self.here().wrapping_add(4);
-                    let (b, d) = self.based(dice, next);
-                    let r1 = self.valued(dice);
-                    let r3 = self.valued(dice);
-                    rs(code, r1, r3, b, d)
-                }
-                _ => {
-                    let (b, d) = self.based(dice, target);
-                    let r1 = dice.below(16) as u8;
-                    let words = dice.pick(&[1, 1, 2, 3, 16]);
-                    let r3 = ((u32::from(r1) + words - 1) % 16) as u8;
-                    rs(code, r1, r3, b, d)
-                }
-            },
+            Form::RR => self.aimed_rr(dice, code),
+            Form::RX => self.aimed_rx(dice, code, target),
+            Form::RS => self.aimed_rs(dice, code, target),
             Form::SI => {
                 let (b, d) = self.based(dice, target);
                 si(code, dice.edge_byte(), b, d)
@@ -355,6 +283,82 @@ impl Scene {
                 let other = self.data_at(dice.pick(&[8, 65, 1_001, 2_040, 3_700, 4_090]));
                 let (b2, d2) = self.based(dice, other);
                 ss(code, length, b1, d1, b2, d2)
+            }
+        }
+    }
+
+    fn aimed_rr(&mut self, dice: &mut Dice, code: u8) -> Vec<u8> {
+        if !matches!(code, op::BCR | op::BALR | op::BCTR) {
+            let r1 = self.valued(dice);
+            let r2 = if dice.chance(1, 8) {
+                r1
+            } else {
+                self.valued(dice)
+            };
+            return rr(code, r1, r2);
+        }
+        let next = self.here().wrapping_add(2);
+        let r1 = if dice.chance(1, 8) {
+            0
+        } else {
+            let taken = self.take();
+            let value = dice.edge_word();
+            self.draft.register(taken, value);
+            taken
+        };
+        let r2 = match dice.below(6) {
+            0 => 0,
+            1 if r1 != 0 => {
+                self.draft.register(r1, next);
+                r1
+            }
+            _ => self.pointer(dice, next),
+        };
+        let r1 = if code == op::BCR {
+            dice.below(16) as u8
+        } else {
+            r1
+        };
+        rr(code, r1, r2)
+    }
+
+    fn aimed_rx(&mut self, dice: &mut Dice, code: u8, target: u32) -> Vec<u8> {
+        if matches!(code, op::BC | op::BAL | op::BCT) {
+            let next = self.here().wrapping_add(4);
+            let (x, b, d) = self.indexed(dice, next);
+            let r1 = self.valued(dice);
+            return rx(code, r1, x, b, d);
+        }
+        let (x, b, d) = self.indexed(dice, target);
+        let r1 = if b != 0 && dice.chance(1, 12) {
+            b
+        } else {
+            self.valued(dice)
+        };
+        rx(code, r1, x, b, d)
+    }
+
+    fn aimed_rs(&mut self, dice: &mut Dice, code: u8, target: u32) -> Vec<u8> {
+        match code {
+            op::SLL | op::SRL => {
+                let amount = dice.pick(&[0, 1, 8, 31, 32, 63, 64, 100]);
+                let (b, d) = self.based(dice, amount);
+                let r1 = self.valued(dice);
+                rs(code, r1, dice.below(16) as u8, b, d)
+            }
+            op::BXH | op::BXLE => {
+                let next = self.here().wrapping_add(4);
+                let (b, d) = self.based(dice, next);
+                let r1 = self.valued(dice);
+                let r3 = self.valued(dice);
+                rs(code, r1, r3, b, d)
+            }
+            _ => {
+                let (b, d) = self.based(dice, target);
+                let r1 = dice.below(16) as u8;
+                let words = dice.pick(&[1, 1, 2, 3, 16]);
+                let r3 = ((u32::from(r1) + words - 1) % 16) as u8;
+                rs(code, r1, r3, b, d)
             }
         }
     }
