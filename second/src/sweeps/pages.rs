@@ -127,28 +127,37 @@ pub fn word_flags(case: u32, dice: &mut Dice) -> Draft {
     scene.put(target, &[0x33, 0x44]);
     let (base, d) = scene.based(dice, target);
     if access == 1 {
-        let r = scene.take();
-        let instruction = match dice.below(4) {
-            0 => rx(op::IC, r, 0, base, d),
-            1 => rx(op::LH, r, 0, base, d),
-            2 => si(op::CLI, 0x33, base, d),
-            _ => si(op::TM, 0x12, base, d),
-        };
-        scene.add(instruction);
+        add_load(&mut scene, dice, base, d);
     } else {
-        let r = scene.valued(dice);
-        let instruction = match dice.below(5) {
-            0 => rx(op::STC, r, 0, base, d),
-            1 => rx(op::STH, r, 0, base, d),
-            2 => si(op::MVI, 0x55, base, d),
-            3 => si(op::XI, 0xFF, base, d),
-            _ => ss(op::MVC, 1, base, d, base, d),
-        };
-        scene.add(instruction);
-        let r = scene.take();
-        scene.add(rx(op::LH, r, 0, base, d));
+        add_store(&mut scene, dice, base, d);
     }
     scene.finish(dice)
+}
+
+fn add_load(scene: &mut Scene, dice: &mut Dice, base: u8, d: u32) {
+    let r = scene.take();
+    let instruction = match dice.below(4) {
+        0 => rx(op::IC, r, 0, base, d),
+        1 => rx(op::LH, r, 0, base, d),
+        2 => si(op::CLI, 0x33, base, d),
+        _ => si(op::TM, 0x12, base, d),
+    };
+    scene.add(instruction);
+}
+
+/// A store, and a load of what it stored.
+fn add_store(scene: &mut Scene, dice: &mut Dice, base: u8, d: u32) {
+    let r = scene.valued(dice);
+    let instruction = match dice.below(5) {
+        0 => rx(op::STC, r, 0, base, d),
+        1 => rx(op::STH, r, 0, base, d),
+        2 => si(op::MVI, 0x55, base, d),
+        3 => si(op::XI, 0xFF, base, d),
+        _ => ss(op::MVC, 1, base, d, base, d),
+    };
+    scene.add(instruction);
+    let r = scene.take();
+    scene.add(rx(op::LH, r, 0, base, d));
 }
 
 /// Every page number, with pages of like numbers beside it; present, or
@@ -158,7 +167,48 @@ pub fn page_numbers(case: u32, dice: &mut Dice) -> Draft {
     let present = case < 512;
     let fetch = dice.chance(1, 2);
     let mut scene = Scene::new(dice);
-    let likes = [
+    let likes = like_numbers(page);
+    let frame = scene.data_frames[0];
+    let like_frame = scene.data_frames[1];
+    scene
+        .draft
+        .put(u32::from(frame) * 4_096, &[0x41, 0x50, 0x01, 0x11]);
+    scene
+        .draft
+        .put(u32::from(like_frame) * 4_096, &[0x41, 0x60, 0x02, 0x22]);
+    scene.draft.pages.clear();
+    if !fetch {
+        // From a code page that is none of these.
+        scene.code_page = 5;
+        while scene.code_page == page || likes.contains(&scene.code_page) {
+            scene.code_page += 1;
+        }
+        let word = OPEN | scene.code_frames[0];
+        scene.draft.page(scene.code_page, word);
+    }
+    for like in likes {
+        if like != page && dice.chance(2, 3) {
+            scene.draft.page(like, OPEN | like_frame);
+        }
+    }
+    if present {
+        scene.draft.page(page, OPEN | frame);
+    }
+    if fetch {
+        scene.code_page = page;
+        scene.offset = 0;
+        // The code already lies in its frame.
+        return scene.finish_with(1);
+    }
+    let (x, base, d) = scene.indexed(dice, page * 4_096);
+    let r = scene.take();
+    scene.add(rx(op::L, r, x, base, d));
+    scene.finish(dice)
+}
+
+/// Page numbers that a slip might take for this one.
+fn like_numbers(page: u32) -> [u32; 9] {
+    [
         page % 64,
         page ^ 64,
         page ^ 128,
@@ -168,50 +218,7 @@ pub fn page_numbers(case: u32, dice: &mut Dice) -> Draft {
         page / 2,
         (page * 2) % 512,
         page.reverse_bits() >> 23,
-    ];
-    let frame = scene.data_frames[0];
-    let like_frame = scene.data_frames[1];
-    scene
-        .draft
-        .put(u32::from(frame) * 4_096, &[0x41, 0x50, 0x01, 0x11]);
-    scene
-        .draft
-        .put(u32::from(like_frame) * 4_096, &[0x41, 0x60, 0x02, 0x22]);
-    if fetch {
-        scene.draft.pages.clear();
-        for like in likes {
-            if like != page && dice.chance(2, 3) {
-                scene.draft.page(like, OPEN | like_frame);
-            }
-        }
-        if present {
-            scene.draft.page(page, OPEN | frame);
-        }
-        scene.code_page = page;
-        scene.offset = 0;
-        // The code already lies in its frame.
-        return scene.finish_with(1);
-    }
-    // From a code page that is none of these.
-    let mut code_page = 5;
-    while code_page == page || likes.contains(&code_page) {
-        code_page += 1;
-    }
-    scene.draft.pages.clear();
-    scene.code_page = code_page;
-    scene.draft.page(code_page, OPEN | scene.code_frames[0]);
-    for like in likes {
-        if like != page && dice.chance(2, 3) {
-            scene.draft.page(like, OPEN | like_frame);
-        }
-    }
-    if present {
-        scene.draft.page(page, OPEN | frame);
-    }
-    let (x, base, d) = scene.indexed(dice, page * 4_096);
-    let r = scene.take();
-    scene.add(rx(op::L, r, x, base, d));
-    scene.finish(dice)
+    ]
 }
 
 /// Every frame number for a fetch, a load and a store.
@@ -254,10 +261,17 @@ pub fn frames(case: u32, dice: &mut Dice) -> Draft {
 /// Each operation where its own fetch is in danger.
 pub fn fetches(case: u32, dice: &mut Dice) -> Draft {
     let row = OPERATIONS[(case % 50) as usize];
-    let length = op::length(row.code);
     let mut scene = Scene::new(dice);
+    put_in_danger(&mut scene, dice, case / 50, op::length(row.code));
+    let instruction = scene.good(dice, row.code);
+    scene.add(instruction);
+    scene.finish(dice)
+}
+
+/// Moves the code, of so many bytes, to where its fetch may be refused.
+fn put_in_danger(scene: &mut Scene, dice: &mut Dice, kind: u32, length: u32) {
     let page = scene.code_page;
-    match case / 50 {
+    match kind {
         // The first halfword's page.
         0..=2 => {
             let fault = dice.below(FAULTS);
@@ -302,9 +316,6 @@ pub fn fetches(case: u32, dice: &mut Dice) -> Draft {
             scene.offset = 4_096 - length + 2 * dice.below(length / 2 + 1);
         }
     }
-    let instruction = scene.good(dice, row.code);
-    scene.add(instruction);
-    scene.finish(dice)
 }
 
 /// Each instruction of four or six bytes over the end of a page, against

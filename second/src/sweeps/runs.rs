@@ -41,10 +41,24 @@ pub fn budgets(case: u32, dice: &mut Dice) -> Draft {
         _ => dice.pick(&[1_000, 3_000, 20_000, 65_535]),
     };
     let mut scene = Scene::new(dice);
+    let whole = turns * add_loop(&mut scene, dice, kind, turns);
+    let budget = match case / 7 % 6 {
+        0 => dice.pick(&[0, 1, 2]),
+        1 => whole - 1,
+        2 => whole,
+        3 => whole + 1,
+        4 => whole / 2,
+        _ => 65_535,
+    };
+    scene.finish_with(budget.min(65_535))
+}
+
+/// A loop of so many turns; tells how many steps a turn has.
+fn add_loop(scene: &mut Scene, dice: &mut Dice, kind: u32, turns: u32) -> u32 {
     let start = scene.here();
     let base = scene.pointer(dice, start);
     let count = scene.take();
-    let per_turn = match kind {
+    match kind {
         0 => {
             scene.draft.register(count, turns);
             scene.add(rx(op::BCT, count, 0, base, 0));
@@ -93,17 +107,7 @@ pub fn budgets(case: u32, dice: &mut Dice) -> Draft {
             scene.add(rx(op::BCT, count, 0, base, 0));
             3
         }
-    };
-    let whole = turns * per_turn;
-    let budget = match case / 7 % 6 {
-        0 => dice.pick(&[0, 1, 2]),
-        1 => whole - 1,
-        2 => whole,
-        3 => whole + 1,
-        4 => whole / 2,
-        _ => 65_535,
-    };
-    scene.finish_with(budget.min(65_535))
+    }
 }
 
 /// Programs that change the instructions they are about to do.
