@@ -23,21 +23,17 @@ pub fn two_fields(case: u32, dice: &mut Dice) -> Draft {
         scene.draft.page(scene.data_page + bad, word);
     }
     if which != 0 {
-        let kind = if which == 2 {
-            dice.below(FAULTS)
-        } else {
-            fault
+        let kind = match which {
+            2 => dice.below(FAULTS),
+            _ => fault,
         };
         let word = fault_word(dice, kind, other_frames[bad as usize]);
         scene.draft.page(other_page + bad, word);
     }
     let length = dice.pick(&[3u8, 7, 20, 255]);
-    let from_end = |dice: &mut Dice| {
-        if straddle {
-            4_096 - (1 + dice.below(u32::from(length)))
-        } else {
-            dice.pick(&[0, 500, 2_040, 2_048])
-        }
+    let from_end = |dice: &mut Dice| match straddle {
+        true => 4_095 - dice.below(u32::from(length)),
+        false => dice.pick(&[0, 500, 2_040, 2_048]),
     };
     let first = scene.data_at(from_end(dice));
     let second = other_page * 4_096 + from_end(dice);
@@ -46,9 +42,7 @@ pub fn two_fields(case: u32, dice: &mut Dice) -> Draft {
     if code == op::CLC {
         scene.put(first, &content);
     }
-    let (b1, d1) = scene.based(dice, first);
-    let (b2, d2) = scene.based(dice, second);
-    scene.add(ss(code, length, b1, d1, b2, d2));
+    add_two_fields(&mut scene, dice, (code, length), first, second);
     keep_code(&mut scene, dice);
     scene.finish(dice)
 }
@@ -147,16 +141,10 @@ pub fn moves(case: u32, dice: &mut Dice) -> Draft {
     let content: Vec<u8> = (0..24).map(|_| dice.byte()).collect();
     scene.put(second, &content);
     if code == op::CLC {
-        let mut same = content.clone();
-        let at = dice.below(24) as usize;
-        if dice.chance(1, 2) {
-            same[at] ^= dice.edge_byte();
-        }
+        let same = nearly_same(dice, content);
         scene.put(first, &same);
     }
-    let (b1, d1) = scene.based(dice, first);
-    let (b2, d2) = scene.based(dice, second);
-    scene.add(ss(code, length, b1, d1, b2, d2));
+    add_two_fields(&mut scene, dice, (code, length), first, second);
     if code == op::MVC {
         let start = (first & !3) - 4;
         scene.fold(dice, start, u32::from(length) / 4 + 4);
@@ -164,6 +152,15 @@ pub fn moves(case: u32, dice: &mut Dice) -> Draft {
         keep_code(&mut scene, dice);
     }
     scene.finish(dice)
+}
+
+/// The content, or half of the time perhaps another byte in it.
+fn nearly_same(dice: &mut Dice, mut content: Vec<u8>) -> Vec<u8> {
+    let at = dice.below(content.len() as u32) as usize;
+    if dice.chance(1, 2) {
+        content[at] ^= dice.edge_byte();
+    }
+    content
 }
 
 /// Another page on the frame of the first data page.
@@ -227,15 +224,15 @@ fn add_through_both(scene: &mut Scene, dice: &mut Dice, kind: u32, a: u32, b: u3
             scene.add(rx(op::L, r, x, base, d));
         }
         2 => {
-            add_two_fields(scene, dice, op::MVC, a + 1, b);
+            add_fields_of_some_length(scene, dice, op::MVC, a + 1, b);
             scene.fold(dice, a, 4);
         }
         3 => {
-            add_two_fields(scene, dice, op::MVC, a, b + 1);
+            add_fields_of_some_length(scene, dice, op::MVC, a, b + 1);
             scene.fold(dice, a, 4);
         }
         4 => {
-            add_two_fields(scene, dice, op::CLC, a, b);
+            add_fields_of_some_length(scene, dice, op::CLC, a, b);
             keep_code(scene, dice);
         }
         _ => {
@@ -247,8 +244,26 @@ fn add_through_both(scene: &mut Scene, dice: &mut Dice, kind: u32, a: u32, b: u3
     }
 }
 
-fn add_two_fields(scene: &mut Scene, dice: &mut Dice, code: u8, first: u32, second: u32) {
+fn add_fields_of_some_length(
+    scene: &mut Scene,
+    dice: &mut Dice,
+    code: u8,
+    first: u32,
+    second: u32,
+) {
     let (b1, d1) = scene.based(dice, first);
     let (b2, d2) = scene.based(dice, second);
     scene.add(ss(code, dice.pick(&[3, 7, 30]), b1, d1, b2, d2));
+}
+
+fn add_two_fields(
+    scene: &mut Scene,
+    dice: &mut Dice,
+    (code, length): (u8, u8),
+    first: u32,
+    second: u32,
+) {
+    let (b1, d1) = scene.based(dice, first);
+    let (b2, d2) = scene.based(dice, second);
+    scene.add(ss(code, length, b1, d1, b2, d2));
 }

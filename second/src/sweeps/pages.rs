@@ -93,33 +93,26 @@ pub fn address_ends(case: u32, dice: &mut Dice) -> Draft {
 /// Every setting of the seven flags for a fetch, a load and a store, low and
 /// high in the page; now and then an X bit with them.
 pub fn word_flags(case: u32, dice: &mut Dice) -> Draft {
-    let flags = ((case % 128) << 9) as u16;
     let access = case / 128 % 3;
     let high = case / 384 == 1;
     let mut scene = Scene::new(dice);
-    let x = if dice.chance(1, 5) {
-        (dice.below(7) as u16 + 1) << 6
-    } else {
-        0
-    };
+    let flags = ((case % 128) << 9) as u16 | perhaps_x(dice);
     let displacement = if high {
         dice.pick(&[2_048, 2_050, 4_094])
     } else {
         dice.pick(&[0, 2, 2_046])
     };
     if access == 0 {
-        scene
-            .draft
-            .page(scene.code_page, flags | x | scene.code_frames[0]);
+        let word = flags | scene.code_frames[0];
+        scene.draft.page(scene.code_page, word);
         scene.offset = displacement;
         let r1 = scene.valued(dice);
         let r2 = scene.valued(dice);
         scene.add(rr(op::LTR, r1, r2));
         return scene.finish(dice);
     }
-    scene
-        .draft
-        .page(scene.data_page, flags | x | scene.data_frames[0]);
+    let word = flags | scene.data_frames[0];
+    scene.draft.page(scene.data_page, word);
     let target = scene.data_at(displacement);
     // The byte where it should be, and others in the other half.
     let real = u32::from(scene.data_frames[0]) * 4_096 + displacement;
@@ -132,6 +125,15 @@ pub fn word_flags(case: u32, dice: &mut Dice) -> Draft {
         add_store(&mut scene, dice, base, d);
     }
     scene.finish(dice)
+}
+
+/// X bits, once in five times.
+fn perhaps_x(dice: &mut Dice) -> u16 {
+    if dice.chance(1, 5) {
+        (dice.below(7) as u16 + 1) << 6
+    } else {
+        0
+    }
 }
 
 fn add_load(scene: &mut Scene, dice: &mut Dice, base: u8, d: u32) {
@@ -168,21 +170,17 @@ pub fn page_numbers(case: u32, dice: &mut Dice) -> Draft {
     let fetch = dice.chance(1, 2);
     let mut scene = Scene::new(dice);
     let likes = like_numbers(page);
-    let frame = scene.data_frames[0];
-    let like_frame = scene.data_frames[1];
+    let [frame, like_frame] = scene.data_frames;
+    let start = |frame: u16| u32::from(frame) * 4_096;
+    scene.draft.put(start(frame), &[0x41, 0x50, 0x01, 0x11]);
     scene
         .draft
-        .put(u32::from(frame) * 4_096, &[0x41, 0x50, 0x01, 0x11]);
-    scene
-        .draft
-        .put(u32::from(like_frame) * 4_096, &[0x41, 0x60, 0x02, 0x22]);
+        .put(start(like_frame), &[0x41, 0x60, 0x02, 0x22]);
     scene.draft.pages.clear();
     if !fetch {
         // From a code page that is none of these.
-        scene.code_page = 5;
-        while scene.code_page == page || likes.contains(&scene.code_page) {
-            scene.code_page += 1;
-        }
+        let is_free = |code: &u32| *code != page && !likes.contains(code);
+        scene.code_page = (5..512).find(is_free).unwrap_or(5);
         let word = OPEN | scene.code_frames[0];
         scene.draft.page(scene.code_page, word);
     }
@@ -268,47 +266,52 @@ pub fn fetches(case: u32, dice: &mut Dice) -> Draft {
     scene.finish(dice)
 }
 
+/// Moves the code to the end of virtual memory, or of all addresses.
+fn put_at_an_end(scene: &mut Scene, dice: &mut Dice, of_all: bool) {
+    let open = OPEN | scene.code_frames[0];
+    if of_all {
+        scene.draft.page(0, open);
+        scene.draft.page(511, open);
+        scene.code_page = 4_095;
+        scene.offset = 4_096 - dice.pick(&[2, 4, 6, 1]);
+    } else {
+        scene.draft.page(511, open);
+        scene.code_page = 511;
+        scene.offset = 4_096 - dice.pick(&[2, 4, 6]);
+    }
+}
+
+/// Gives the code's page a word that fails a test, or nearly.
+fn spoil_code_page(scene: &mut Scene, dice: &mut Dice) {
+    let fault = dice.below(FAULTS);
+    let word = fault_word(dice, fault, scene.code_frames[0]);
+    scene.draft.page(scene.code_page, word);
+}
+
 /// Moves the code, of so many bytes, to where its fetch may be refused.
 fn put_in_danger(scene: &mut Scene, dice: &mut Dice, kind: u32, length: u32) {
     let page = scene.code_page;
+    let open = OPEN | scene.code_frames[0];
     match kind {
         // The first halfword's page.
         0..=2 => {
-            let fault = dice.below(FAULTS);
-            let word = fault_word(dice, fault, scene.code_frames[0]);
-            scene.draft.page(page, word);
+            spoil_code_page(scene, dice);
             scene.offset = dice.pick(&[0, 2_046, 2_048, 2_050]);
         }
         // The end of a half page.
         3 | 4 => {
             let half = dice.pick(&[0, H]);
-            scene
-                .draft
-                .page(page, OPEN | M | half | scene.code_frames[0]);
+            scene.draft.page(page, open | M | half);
             scene.offset = 2_048 - dice.pick(&[2, 4, 6]);
         }
         // An odd counter.
         5 => {
             scene.offset = 1 + 2 * dice.below(200);
             if dice.chance(1, 2) {
-                let fault = dice.below(FAULTS);
-                let word = fault_word(dice, fault, scene.code_frames[0]);
-                scene.draft.page(page, word);
+                spoil_code_page(scene, dice);
             }
         }
-        // The end of virtual memory.
-        6 | 7 => {
-            scene.code_page = 511;
-            scene.draft.page(511, OPEN | scene.code_frames[0]);
-            scene.offset = 4_096 - dice.pick(&[2, 4, 6]);
-        }
-        // The end of all addresses.
-        8 => {
-            scene.draft.page(0, OPEN | scene.code_frames[0]);
-            scene.draft.page(511, OPEN | scene.code_frames[0]);
-            scene.code_page = 4_095;
-            scene.offset = 4_096 - dice.pick(&[2, 4, 6, 1]);
-        }
+        6..=8 => put_at_an_end(scene, dice, kind == 8),
         // Across into a page that is open.
         _ => {
             let word = open_word(dice, scene.code_frames[1], false);
