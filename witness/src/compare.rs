@@ -87,3 +87,74 @@ pub fn tell(case: &Case, hercules: &After, engine: &Outcome) -> String {
     }
     out
 }
+
+#[cfg(test)]
+mod tests {
+    use super::*;
+    use crate::{guest, make};
+    use common::set::SET;
+
+    /// A case, and what both would make of it if they changed nothing but the counter.
+    fn agreed() -> (Case, After, Outcome) {
+        let case = make::make(&SET[0], 0, guest::window_at(0));
+        let counter = case.counter + 2;
+        let after = After {
+            end: End::At(counter),
+            code: case.code,
+            mask: case.mask,
+            regs: case.regs,
+            window: case.window.clone(),
+            zone: case.zone.clone(),
+        };
+        let outcome = Outcome {
+            number: 0,
+            place: 0,
+            counter: counter.into(),
+            code: case.code.into(),
+            mask: case.mask.into(),
+            regs: case.regs.iter().map(|word| u64::from(*word)).collect(),
+            checksum: checksum(&memory(&case, &case.window, &case.zone)),
+        };
+        (case, after, outcome)
+    }
+
+    #[test]
+    fn what_agrees_is_not_told() {
+        let (case, after, outcome) = agreed();
+        assert!(differences(&case, &after, &outcome).is_empty());
+    }
+
+    #[test]
+    fn every_change_of_the_engine_is_seen() {
+        let changes: [fn(&mut Outcome); 7] = [
+            |outcome| outcome.number = 5,
+            |outcome| outcome.counter += 2,
+            |outcome| outcome.code ^= 1,
+            |outcome| outcome.mask ^= 1,
+            |outcome| outcome.regs[15] ^= 1,
+            |outcome| outcome.regs.truncate(15),
+            |outcome| outcome.checksum ^= 1,
+        ];
+        for (i, change) in changes.iter().enumerate() {
+            let (case, after, mut outcome) = agreed();
+            change(&mut outcome);
+            assert_eq!(differences(&case, &after, &outcome).len(), 1, "change {i}");
+        }
+    }
+
+    #[test]
+    fn every_change_of_hercules_is_seen() {
+        let changes: [fn(&mut After); 5] = [
+            |after| after.regs[0] ^= 1,
+            |after| after.window[1023] ^= 1,
+            |after| after.zone[255] ^= 1,
+            |after| after.end = End::Refused(6),
+            |after| after.code ^= 1,
+        ];
+        for (i, change) in changes.iter().enumerate() {
+            let (case, mut after, outcome) = agreed();
+            change(&mut after);
+            assert_eq!(differences(&case, &after, &outcome).len(), 1, "change {i}");
+        }
+    }
+}

@@ -111,3 +111,43 @@ fn end(caught: u8, psw: &OldPsw) -> End {
         _ => End::Refused(psw.number),
     }
 }
+
+#[cfg(test)]
+mod tests {
+    use super::*;
+    use crate::make;
+    use common::set::SET;
+
+    #[test]
+    fn storage_has_the_cases_whole() {
+        let cases: Vec<Case> = SET
+            .iter()
+            .enumerate()
+            .map(|(i, instruction)| make::make(instruction, i, window_at(i)))
+            .collect();
+        let storage = storage(&cases);
+        for (case, after) in cases.iter().zip(read(&cases, &storage)) {
+            assert_eq!(after.regs, case.regs);
+            assert_eq!((after.code, after.mask), (case.code, case.mask));
+            assert_eq!(after.window, case.window);
+            assert_eq!(after.zone, case.zone);
+        }
+    }
+
+    #[test]
+    fn an_interruption_tells_the_counter() {
+        let psw = |number, place| OldPsw {
+            number,
+            code: 0,
+            mask: 0,
+            address: 0x1002,
+            place,
+        };
+        assert_eq!(end(1, &psw(1, 0x1000)), End::At(0x1000));
+        assert_eq!(end(2, &psw(1, 0x1000)), End::At(0x1000));
+        assert_eq!(end(2, &psw(6, 0x1001)), End::At(0x1001));
+        assert_eq!(end(2, &psw(6, 0x1000)), End::Refused(6));
+        assert_eq!(end(2, &psw(8, 0x1000)), End::Overflow(0x1002));
+        assert_eq!(end(2, &psw(5, 0x1000)), End::Refused(5));
+    }
+}
