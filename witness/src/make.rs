@@ -40,6 +40,10 @@ fn four(first: usize, second: usize, base: usize, displacement: u32) -> Vec<u8> 
     vec![pair(first, second), high, low]
 }
 
+fn three_registers(draft: &mut Draft) -> [usize; 3] {
+    std::array::from_fn(|_| draft.dice.register())
+}
+
 fn registers(draft: &mut Draft) -> Vec<u8> {
     let (r1, r2) = (draft.dice.register(), draft.dice.register());
     draft.regs[r2] = draft.dice.near(draft.regs[r1]);
@@ -65,11 +69,7 @@ fn register_branch(draft: &mut Draft) -> (Vec<u8>, Option<u32>) {
 }
 
 fn storage(draft: &mut Draft, width: u32, stores: bool) -> Vec<u8> {
-    let (r1, index, base) = (
-        draft.dice.register(),
-        draft.dice.register(),
-        draft.dice.register(),
-    );
+    let [r1, index, base] = three_registers(draft);
     let at = draft.place(width, width, stores, base == 0 && index == 0);
     let displacement = draft.reach(at, base, index);
     let operand = draft.dice.near(draft.regs[r1]).to_be_bytes();
@@ -82,11 +82,7 @@ fn storage(draft: &mut Draft, width: u32, stores: bool) -> Vec<u8> {
 }
 
 fn address(draft: &mut Draft) -> Vec<u8> {
-    let (r1, index, base) = (
-        draft.dice.register(),
-        draft.dice.register(),
-        draft.dice.register(),
-    );
+    let [r1, index, base] = three_registers(draft);
     let displacement = draft.dice.displacement();
     if draft.dice.once_in(2) && index != base {
         // Sums about the wrap at 24 bits.
@@ -101,11 +97,7 @@ fn address(draft: &mut Draft) -> Vec<u8> {
 }
 
 fn storage_branch(draft: &mut Draft) -> (Vec<u8>, Option<u32>) {
-    let (r1, index, base) = (
-        draft.dice.register(),
-        draft.dice.register(),
-        draft.dice.register(),
-    );
+    let [r1, index, base] = three_registers(draft);
     count(draft, r1);
     let at = draft.target(base == 0 && index == 0);
     let displacement = draft.reach(at, base, index);
@@ -113,11 +105,7 @@ fn storage_branch(draft: &mut Draft) -> (Vec<u8>, Option<u32>) {
 }
 
 fn multiple(draft: &mut Draft, stores: bool) -> Vec<u8> {
-    let (r1, r3, base) = (
-        draft.dice.register(),
-        draft.dice.register(),
-        draft.dice.register(),
-    );
+    let [r1, r3, base] = three_registers(draft);
     let len = 4 * ((r3 + 16 - r1) % 16 + 1) as u32;
     let at = draft.place(len, 4, stores, base == 0);
     draft.note(at, len);
@@ -126,11 +114,7 @@ fn multiple(draft: &mut Draft, stores: bool) -> Vec<u8> {
 }
 
 fn index_branch(draft: &mut Draft) -> (Vec<u8>, Option<u32>) {
-    let (r1, r3, base) = (
-        draft.dice.register(),
-        draft.dice.register(),
-        draft.dice.register(),
-    );
+    let [r1, r3, base] = three_registers(draft);
     if !draft.dice.once_in(3) {
         // A sum just below, at, or just above the comparand.
         let off = draft.dice.pick(&[0u32, 0, 1, 2, 0xFFFF_FFFF, 0xFFFF_FFFE]);
@@ -144,11 +128,7 @@ fn index_branch(draft: &mut Draft) -> (Vec<u8>, Option<u32>) {
 }
 
 fn shift(draft: &mut Draft) -> Vec<u8> {
-    let (r1, r3, base) = (
-        draft.dice.register(),
-        draft.dice.register(),
-        draft.dice.register(),
-    );
+    let [r1, r3, base] = three_registers(draft);
     let mut displacement = draft.dice.displacement();
     if draft.dice.once_in(2) {
         let held = if base == 0 { 0 } else { draft.regs[base] };
