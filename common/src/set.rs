@@ -28,12 +28,17 @@ pub enum Shape {
 #[derive(Clone, Copy, Debug)]
 pub struct Instruction {
     pub name: &'static str,
-    pub code: u8,
+    /// The operation code.
+    pub operation: u8,
     pub shape: Shape,
 }
 
-const fn row(name: &'static str, code: u8, shape: Shape) -> Instruction {
-    Instruction { name, code, shape }
+const fn row(name: &'static str, operation: u8, shape: Shape) -> Instruction {
+    Instruction {
+        name,
+        operation,
+        shape,
+    }
 }
 
 const fn load(width: u32) -> Shape {
@@ -104,8 +109,8 @@ pub const SET: [Instruction; 50] = [
 ];
 
 /// An instruction's bytes, by the top two bits of its operation code.
-pub fn length(code: u8) -> usize {
-    match code >> 6 {
+pub fn length(operation: u8) -> usize {
+    match operation >> 6 {
         0 => 2,
         3 => 6,
         _ => 4,
@@ -117,10 +122,10 @@ mod tests {
     use super::{length, Shape, SET};
 
     #[test]
-    fn no_name_or_code_stands_twice() {
+    fn no_name_or_operation_code_stands_twice() {
         for (i, one) in SET.iter().enumerate() {
             for other in &SET[i + 1..] {
-                assert!(one.name != other.name && one.code != other.code);
+                assert!(one.name != other.name && one.operation != other.operation);
             }
         }
     }
@@ -133,7 +138,7 @@ mod tests {
                 Shape::Fields { .. } => 6,
                 _ => 4,
             };
-            assert_eq!(length(one.code), wanted, "{}", one.name);
+            assert_eq!(length(one.operation), wanted, "{}", one.name);
         }
     }
 }

@@ -10,7 +10,7 @@ pub struct Case {
     /// None for a single step.
     pub budget: Option<u32>,
     /// The first instruction's bytes.
-    pub code: [u8; 6],
+    pub text: [u8; 6],
 }
 
 /// Displacements near the ends of pages, half pages, and fields that reach over them.
@@ -37,7 +37,7 @@ pub fn case(number: u64) -> Case {
     machine.counter = counter(&mut dice);
     machine.code = dice.below(4);
     machine.mask = dice.below(16);
-    let code = place_code(&mut dice, &mut machine);
+    let text = place_code(&mut dice, &mut machine);
     let budget = match dice.below(4) {
         0 => Some(dice.below(12)),
         _ => None,
@@ -45,7 +45,7 @@ pub fn case(number: u64) -> Case {
     let mut case = Case {
         machine,
         budget,
-        code,
+        text,
     };
     if dice.once_in(80) {
         spoil(&mut dice, &mut case);
@@ -136,13 +136,13 @@ fn counter(dice: &mut Dice) -> u32 {
 fn place_code(dice: &mut Dice, machine: &mut Machine) -> [u8; 6] {
     let first = instruction(dice);
     let mut at = machine.counter;
-    let mut code = first;
+    let mut text = first;
     for _ in 0..6 {
-        for byte in &code[..length(code[0])] {
+        for byte in &text[..length(text[0])] {
             put(machine, at, *byte);
             at += 1;
         }
-        code = instruction(dice);
+        text = instruction(dice);
     }
     first
 }
@@ -159,14 +159,14 @@ fn put(machine: &mut Machine, address: u32, byte: u8) {
 }
 
 fn instruction(dice: &mut Dice) -> [u8; 6] {
-    let mut code = [0; 6];
-    code[0] = match dice.below(20) {
+    let mut text = [0; 6];
+    text[0] = match dice.below(20) {
         0 => dice.byte(),
         1 => 0xD2,
         2 => 0xD5,
-        _ => dice.pick(&SET).code,
+        _ => dice.pick(&SET).operation,
     };
-    code[1] = match code[0] >> 6 {
+    text[1] = match text[0] >> 6 {
         3 => dice.pick(&[0, 1, 3, 7, 63, 127, 254, 255]),
         1 if dice.once_in(2) => dice.byte() & 0xF0,
         _ => dice.byte(),
@@ -176,9 +176,9 @@ fn instruction(dice: &mut Dice) -> [u8; 6] {
         0 => first.wrapping_add(dice.below(9) as u16).wrapping_sub(4),
         _ => based(dice),
     };
-    code[2..4].copy_from_slice(&first.to_be_bytes());
-    code[4..].copy_from_slice(&second.to_be_bytes());
-    code
+    text[2..4].copy_from_slice(&first.to_be_bytes());
+    text[4..].copy_from_slice(&second.to_be_bytes());
+    text
 }
 
 /// A base register and a displacement.

@@ -65,13 +65,13 @@ fn done(engine: Engine, case: &Case) -> (Machine, Answer) {
 }
 
 fn shown(number: u64, case: &Case) -> String {
-    let code = to_hex(&case.code);
+    let text = to_hex(&case.text);
     let kind = match case.budget {
         None => "a step".to_string(),
         Some(budget) => format!("a run of {budget}"),
     };
     let counter = case.machine.counter;
-    format!("generated case {number}, {kind} from {counter:06X}, code {code}")
+    format!("generated case {number}, {kind} from {counter:06X}, instruction {text}")
 }
 
 /// Both ordinary engines against the proved one on generated cases. That every operation completes and every number comes up
@@ -82,7 +82,7 @@ pub fn generated() -> Result<u32, String> {
     for number in 0..CASES {
         let case = case(number);
         let (wanted, answer) = done(Engine::Proved, &case);
-        completed[usize::from(case.code[0])] |= answer.number == 0;
+        completed[usize::from(case.text[0])] |= answer.number == 0;
         match answered.get_mut(answer.number as usize) {
             Some(came) => *came = true,
             None => {
@@ -101,7 +101,10 @@ pub fn generated() -> Result<u32, String> {
             }
         }
     }
-    if let Some(never) = SET.iter().find(|one| !completed[usize::from(one.code)]) {
+    if let Some(never) = SET
+        .iter()
+        .find(|one| !completed[usize::from(one.operation)])
+    {
         return Err(format!("no generated case completes {}", never.name));
     }
     match answered.iter().position(|came| !came) {

@@ -53,6 +53,6 @@ impl Case {
     /// The instruction's bytes.
     pub fn text(&self) -> &[u8] {
         let at = (self.counter - self.window_at) as usize;
-        &self.window[at..at + length(self.instruction.code)]
+        &self.window[at..at + length(self.instruction.operation)]
     }
 }

@@ -37,7 +37,7 @@ pub fn differences(case: &Case, hercules: &After, engine: &Outcome) -> Vec<Strin
     // The engine tells its memory by a checksum of the whole.
     let theirs = checksum(&memory(case, &hercules.window, &hercules.zone));
     held("checksum of memory", theirs, engine.checksum);
-    let is_due = case.mask & 8 != 0 && engine.code == 3 && can_overflow(case.instruction.code);
+    let is_due = case.mask & 8 != 0 && engine.code == 3 && can_overflow(case.instruction.operation);
     held(
         "interruption for overflow",
         matches!(hercules.end, End::Overflow(_)).into(),
@@ -47,8 +47,8 @@ pub fn differences(case: &Case, hercules: &After, engine: &Outcome) -> Vec<Strin
 }
 
 /// LPR, LCR, AR, SR, A, S.
-fn can_overflow(code: u8) -> bool {
-    matches!(code, 0x10 | 0x13 | 0x1A | 0x1B | 0x5A | 0x5B)
+fn can_overflow(operation: u8) -> bool {
+    matches!(operation, 0x10 | 0x13 | 0x1A | 0x1B | 0x5A | 0x5B)
 }
 
 /// The case as a reader needs it: what stood where, and which of the own bytes Hercules changed.

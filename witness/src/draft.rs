@@ -24,12 +24,12 @@ pub struct Draft {
 
 impl Draft {
     pub fn new(instruction: &Instruction, number: usize, window_at: u32) -> Draft {
-        let mut dice = draw::dice(instruction.code, number);
+        let mut dice = draw::dice(instruction.operation, number);
         let mut draft = Draft {
             regs: std::array::from_fn(|_| dice.content_word()),
             window: (0..WINDOW).map(|_| dice.content_byte()).collect(),
             zone: (0..ZONE).map(|_| dice.content_byte()).collect(),
-            size: length(instruction.code) as u32,
+            size: length(instruction.operation) as u32,
             counter: 0,
             crosses: false,
             window_at,

@@ -26,8 +26,8 @@ const EDGES: [u32; 20] = [
 ];
 
 /// Dice for one case of one operation code.
-pub fn dice(code: u8, number: usize) -> Dice {
-    let mut first = Dice::new(u64::from(code) << 40 ^ number as u64);
+pub fn dice(operation: u8, number: usize) -> Dice {
+    let mut first = Dice::new(u64::from(operation) << 40 ^ number as u64);
     Dice::new(first.roll())
 }
 

@@ -59,8 +59,8 @@ fn report(witness: &Witness) -> usize {
     println!("instruction  code    cases  differences");
     let mut total = Tally::default();
     for (instruction, tally) in SET.iter().zip(&witness.tallies) {
-        let code = format!("{:02X}", instruction.code);
-        print_line(instruction.name, &code, tally);
+        let operation = format!("{:02X}", instruction.operation);
+        print_line(instruction.name, &operation, tally);
         total.add(*tally);
     }
     print_line("total", &SET.len().to_string(), &total);
@@ -71,9 +71,9 @@ fn report(witness: &Witness) -> usize {
     total.different
 }
 
-fn print_line(name: &str, code: &str, tally: &Tally) {
+fn print_line(name: &str, operation: &str, tally: &Tally) {
     println!(
-        "{name:<11}  {code}    {:>7}  {:>11}",
+        "{name:<11}  {operation}    {:>7}  {:>11}",
         tally.cases, tally.different
     );
 }

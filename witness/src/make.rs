@@ -19,7 +19,7 @@ pub fn make(instruction: &'static Instruction, number: usize, window_at: u32) ->
         Shape::Immediate { stores } => (immediate(&mut draft, stores), None),
         Shape::Fields { stores } => (two_fields(&mut draft, stores), None),
     };
-    let mut text = vec![instruction.code];
+    let mut text = vec![instruction.operation];
     text.extend(fields);
     draft.finish(instruction, number, &text, target)
 }
