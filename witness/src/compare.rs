@@ -55,7 +55,7 @@ fn can_overflow(operation: u8) -> bool {
 pub fn tell(case: &Case, hercules: &After, engine: &Outcome) -> String {
     let regs: Vec<String> = case.regs.iter().map(|word| format!("{word:08X}")).collect();
     let mut out = format!(
-        "{} case {}: {} at {:06X}, code {}, mask {}, own bytes from {:06X}\n  registers {}\n  Hercules {:X?}; engine {} at {:06X}, then {:06X}\n",
+        "{} case {}: {} at {:06X}, code {}, mask {}, own bytes from {:06X}\n",
         case.instruction.name,
         case.number,
         to_hex(case.text()),
@@ -63,11 +63,11 @@ pub fn tell(case: &Case, hercules: &After, engine: &Outcome) -> String {
         case.code,
         case.mask,
         case.window_at,
-        regs.join(" "),
-        hercules.end,
-        engine.number,
-        engine.place,
-        engine.counter,
+    );
+    out += &format!("  registers {}\n", regs.join(" "));
+    out += &format!(
+        "  Hercules {:X?}; engine {} at {:06X}, then {:06X}\n",
+        hercules.end, engine.number, engine.place, engine.counter,
     );
     for (at, before, after) in [
         (case.window_at, &case.window, &hercules.window),
