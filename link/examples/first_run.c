@@ -12,30 +12,23 @@ static uint32_t registers[SPECTRA46_REGISTERS];
 /* LA 1,5; ALR 1,1; ST 1,0(0,2): twice five, stored where register 2 points. */
 static const uint8_t program[] = {0x41, 0x10, 0x00, 0x05, 0x1E, 0x11, 0x50, 0x10, 0x20, 0x00};
 
+/* Why a step was not done. */
 static void explain(uint32_t number, uint32_t place)
 {
-    switch (number) {
-    case SPECTRA46_ADDRESSING:
-        printf("1, addressing: no memory at %06" PRIX32 "\n", place);
-        break;
-    case SPECTRA46_SPECIFICATION:
-        printf("2, specification: %06" PRIX32 " is off its boundary\n", place);
-        break;
-    case SPECTRA46_PAGING_QUEUE:
-        printf("3, paging queue: the page of %06" PRIX32 " is not usable\n", place);
-        break;
-    case SPECTRA46_PAGING_ERROR:
-        printf("4, paging error: the page of %06" PRIX32 " does not allow this access\n", place);
-        break;
-    case SPECTRA46_OPERATION:
-        printf("5, operation: that at %06" PRIX32 " is not in the set\n", place);
-        break;
-    case SPECTRA46_OUT_OF_RANGE:
-        printf("6: a list's length, counter, code, mask or budget out of range\n");
-        break;
-    default:
-        printf("no refusal: number %" PRIu32 "\n", number);
-    }
+    static const struct {
+        const char *before, *after;
+    } words[] = {
+        [SPECTRA46_ADDRESSING] = {"addressing: no memory at ", ""},
+        [SPECTRA46_SPECIFICATION] = {"specification: ", " is off its boundary"},
+        [SPECTRA46_PAGING_QUEUE] = {"paging queue: the page of ", " is not usable"},
+        [SPECTRA46_PAGING_ERROR] = {"paging error: the page of ", " does not allow this access"},
+        [SPECTRA46_OPERATION] = {"operation: that at ", " is not in the set"},
+        [SPECTRA46_OUT_OF_RANGE] = {"out of range: a list's length, counter, code, mask or budget; place ", ""},
+    };
+    if (number < sizeof words / sizeof words[0] && words[number].before)
+        printf("%" PRIu32 ", %s%06" PRIX32 "%s\n", number, words[number].before, place, words[number].after);
+    else
+        printf("%" PRIu32 ", a number of a later library, at %06" PRIX32 "\n", number, place);
 }
 
 int main(void)
@@ -43,14 +36,23 @@ int main(void)
     /* number, place and count; then counter, code and mask: the start of page 10 */
     uint32_t reply[SPECTRA46_REPLY] = {0, 0, 0, 0x00A000, 0, 0};
 
+    if (spectra46_version() / 256 != SPECTRA46_VERSION / 256) {
+        fprintf(stderr, "another library than this program was compiled for\n");
+        return 2;
+    }
     pages[10] = 0x3003; /* page 10 is usable and nonprivileged, on frame 3 */
     memcpy(memory + 3 * 4096, program, sizeof program);
     registers[2] = 0x00B000; /* in page 11, which is not there yet */
 
     uint32_t number = spectra46_run(memory, sizeof memory, pages, SPECTRA46_PAGES, registers, SPECTRA46_REGISTERS, reply,
                                     SPECTRA46_REPLY, 100);
-    printf("%" PRIu32 " steps, then ", reply[2]);
-    explain(number, reply[1]);
+    printf("%" PRIu32 " steps, ", reply[2]);
+    if (number == SPECTRA46_BUDGET_SPENT) {
+        printf("budget spent\n");
+    } else {
+        printf("then ");
+        explain(number, reply[1]);
+    }
 
     pages[11] = 0x3004; /* page 11 on frame 4 */
     number = spectra46_step(memory, sizeof memory, pages, SPECTRA46_PAGES, registers, SPECTRA46_REGISTERS, reply, SPECTRA46_REPLY);

@@ -19,6 +19,9 @@
  *            reply[5]  in and out: the program mask, 0 to 15
  *          What reply[0] to reply[2] hold before the call does not matter.
  *
+ * Byte order: mem is bytes as the 70/46 has them, so a word or halfword lies in it with its highest byte first. map, regs and reply
+ * are numbers of the host, in the host's byte order: a page word 3003 is the number 0x3003, and its leftmost bit is 0x8000.
+ *
  * The numbers, which a function also returns:
  *
  *   0  completed: a single step only. Place 0, count 1
@@ -32,7 +35,19 @@
  *   7  the budget is spent: a run only. Place 0, count is the budget
  *
  * Numbers 1 to 6 alter nothing in the step that they refuse: memory, map, registers, counter, code and mask are as they were
- * after the steps that count tells. */
+ * after the steps that count tells.
+ *
+ * Versions. A caller compares the library that it is linked with to the header that it was compiled with, before any other call:
+ *
+ *     if (spectra46_version() / 256 != SPECTRA46_VERSION / 256) ... another library: use nothing of it
+ *
+ * While the first two numbers of the version stay, so do the functions here, their parameters and the order of these, the lengths of
+ * the lists, the reply's six numbers and their order, and what the numbers 0 to 7 mean. The third number moves for what no caller has
+ * to know. When the second moves, any of this may have changed, and CHANGELOG.md says what.
+ *
+ * Numbers beyond 7 may be added in any version. A caller must take every number that it does not know as a refusal: the step was
+ * not done. So ask whether the number is SPECTRA46_COMPLETED after a step and SPECTRA46_BUDGET_SPENT after a run, never whether it
+ * is one of the refusals. */
 #ifndef SPECTRA46_H
 #define SPECTRA46_H
 
@@ -42,6 +57,9 @@
 #ifdef __cplusplus
 extern "C" {
 #endif
+
+/* This header's version, 0.3.0, as one number: major * 65,536 + minor * 256 + patch. */
+#define SPECTRA46_VERSION 768
 
 enum {
     SPECTRA46_COMPLETED = 0,
@@ -58,6 +76,9 @@ enum {
 #define SPECTRA46_REGISTERS 16
 #define SPECTRA46_REPLY 6
 #define SPECTRA46_ROOM 8192
+
+/* The version of the library that is linked, in the form of SPECTRA46_VERSION. */
+uint32_t spectra46_version(void);
 
 /* One instruction. Returns 0 to 6.
  * Where reply_len is not 6, returns 6 and writes nothing at all; any other 6 writes 6, 0, 0 to reply[0] to reply[2] and no more. */

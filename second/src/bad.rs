@@ -1,6 +1,6 @@
 //! Sheets that break the rules for sheets, or come just short of it.
 
-use crate::dice::Dice;
+use common::dice::Dice;
 
 /// The good sheet from which the list is made.
 const LINES: [&str; 9] = [
@@ -100,58 +100,18 @@ fn line_order(all: &mut Vec<Vec<u8>>) {
 
 /// Each line with its shape broken somewhere.
 fn line_shape(all: &mut Vec<Vec<u8>>) {
-    let odd_bytes: [u8; 12] = [
-        0x00, 0x0B, 0x0C, 0x0D, 0x1A, 0x20, 0x22, 0x7F, 0x80, 0xA0, 0xC0, 0xFF,
-    ];
     for (at, line) in LINES.iter().enumerate() {
-        let plain = line.as_bytes();
-        let keyword = line.split('\t').next().unwrap_or("");
-        // The end of the line.
-        for end in [
-            &b"\r\n"[..],
-            b"\t\n",
-            b" \n",
-            b"\n\n",
-            b"\0\n",
-            b"",
-            b"\r",
-            b"\n\r\n",
-            b"\t\t\n",
-        ] {
-            let mut raw = plain.to_vec();
-            raw.extend_from_slice(end);
-            all.push(with_raw(at, &raw));
-        }
-        // The start of the line.
-        for start in ["\t", " ", "\n", "#", "\u{feff}", "0"] {
-            all.push(with_line(at, &format!("{start}{line}")));
-        }
-        // The key word.
-        for other in [
-            keyword.to_lowercase(),
-            keyword[..keyword.len() - 1].to_string(),
-            format!("{keyword}S"),
-            format!("{keyword} "),
-            String::new(),
-            "NOTE".to_string(),
-        ] {
-            all.push(with_line(at, &line.replacen(keyword, &other, 1)));
-        }
-        // The tabs.
-        for (offset, _) in line.match_indices('\t') {
-            for instead in ["", " ", "\t\t", "\t ", " \t", ",", "\n"] {
-                let changed = format!("{}{}{}", &line[..offset], instead, &line[offset + 1..]);
-                all.push(with_line(at, &changed));
-            }
-            all.push(with_line(at, &line[..offset]));
-            all.push(with_line(at, &line[..offset + 1]));
-        }
+        line_ends(all, at, line);
+        key_words(all, at, line);
+        tabs(all, at, line);
         // Another field.
         all.push(with_line(at, &format!("{line}\t0")));
         // One strange byte in the middle.
-        for byte in odd_bytes {
-            let mut raw = plain.to_vec();
-            raw.insert(plain.len() - 1, byte);
+        for byte in [
+            0x00, 0x0B, 0x0C, 0x0D, 0x1A, 0x20, 0x22, 0x7F, 0x80, 0xA0, 0xC0, 0xFF,
+        ] {
+            let mut raw = line.as_bytes().to_vec();
+            raw.insert(line.len() - 1, byte);
             raw.push(b'\n');
             all.push(with_raw(at, &raw));
         }
@@ -163,6 +123,53 @@ fn line_shape(all: &mut Vec<Vec<u8>>) {
         all.push(cut.clone());
         cut.pop();
         all.push(cut);
+    }
+}
+
+/// The end and the start of a line.
+fn line_ends(all: &mut Vec<Vec<u8>>, at: usize, line: &str) {
+    for end in [
+        &b"\r\n"[..],
+        b"\t\n",
+        b" \n",
+        b"\n\n",
+        b"\0\n",
+        b"",
+        b"\r",
+        b"\n\r\n",
+        b"\t\t\n",
+    ] {
+        all.push(with_raw(at, &[line.as_bytes(), end].concat()));
+    }
+    for start in ["\t", " ", "\n", "#", "\u{feff}", "0"] {
+        all.push(with_line(at, &format!("{start}{line}")));
+    }
+}
+
+/// Another word, or none, for the key word.
+fn key_words(all: &mut Vec<Vec<u8>>, at: usize, line: &str) {
+    let keyword = line.split('\t').next().unwrap_or("");
+    for other in [
+        keyword.to_lowercase(),
+        keyword[..keyword.len() - 1].to_string(),
+        format!("{keyword}S"),
+        format!("{keyword} "),
+        String::new(),
+        "NOTE".to_string(),
+    ] {
+        all.push(with_line(at, &line.replacen(keyword, &other, 1)));
+    }
+}
+
+/// Something else for each tab, or the line's end there.
+fn tabs(all: &mut Vec<Vec<u8>>, at: usize, line: &str) {
+    for (offset, _) in line.match_indices('\t') {
+        for instead in ["", " ", "\t\t", "\t ", " \t", ",", "\n"] {
+            let changed = format!("{}{}{}", &line[..offset], instead, &line[offset + 1..]);
+            all.push(with_line(at, &changed));
+        }
+        all.push(with_line(at, &line[..offset]));
+        all.push(with_line(at, &line[..offset + 1]));
     }
 }
 
@@ -220,42 +227,56 @@ const HEXADECIMALS: [(usize, &str, usize, &str); 3] = [
 
 fn hexadecimals(all: &mut Vec<Vec<u8>>) {
     for (at, before, digits, after) in HEXADECIMALS {
-        let zeros = "0".repeat(digits);
-        let mut values = vec![
-            String::new(),
-            zeros.clone(),
-            "F".repeat(digits),
-            "f".repeat(digits),
-            "0".repeat(digits - 1),
-            "0".repeat(digits + 1),
-            "1".repeat(digits + 8),
-            "0".repeat(200),
-            format!("{}a", &zeros[1..]),
-            format!("a{}", &zeros[1..]),
-            format!("{}G", &zeros[1..]),
-            format!("G{}", &zeros[1..]),
-            format!("{}@", &zeros[1..]),
-            format!("{}:", &zeros[1..]),
-            format!("{}/", &zeros[1..]),
-            format!("{}`", &zeros[1..]),
-            format!("{} ", &zeros[1..]),
-            format!(" {}", &zeros[1..]),
-            format!("0x{}", &zeros[2..]),
-            format!("-{}", &zeros[1..]),
-            format!("+{}", &zeros[1..]),
-            format!("{}H", &zeros[1..]),
-            format!("{}\u{0}", &zeros[1..]),
-            format!("{zeros} "),
-            format!("{zeros}\t"),
-            format!("0{zeros}"),
-        ];
-        for digit in "0123456789ABCDEF".chars() {
-            values.push(digit.to_string().repeat(digits));
-        }
-        for value in values {
+        for value in strange_numbers(digits).into_iter().chain(repeated(digits)) {
             all.push(with_line(at, &format!("{before}{value}{after}")));
         }
     }
+    byte_lists(all);
+}
+
+/// Each digit so many times.
+fn repeated(digits: usize) -> impl Iterator<Item = String> {
+    "0123456789ABCDEF"
+        .chars()
+        .map(move |digit| digit.to_string().repeat(digits))
+}
+
+/// What stands for a number of so many digits, and mostly is none.
+fn strange_numbers(digits: usize) -> Vec<String> {
+    let zeros = "0".repeat(digits);
+    let rest = &zeros[1..];
+    vec![
+        String::new(),
+        zeros.clone(),
+        "F".repeat(digits),
+        "f".repeat(digits),
+        "0".repeat(digits - 1),
+        "0".repeat(digits + 1),
+        "1".repeat(digits + 8),
+        "0".repeat(200),
+        format!("{rest}a"),
+        format!("a{rest}"),
+        format!("{rest}G"),
+        format!("G{rest}"),
+        format!("{rest}@"),
+        format!("{rest}:"),
+        format!("{rest}/"),
+        format!("{rest}`"),
+        format!("{rest} "),
+        format!(" {rest}"),
+        format!("0x{}", &zeros[2..]),
+        format!("-{rest}"),
+        format!("+{rest}"),
+        format!("{rest}H"),
+        format!("{rest}\u{0}"),
+        format!("{zeros} "),
+        format!("{zeros}\t"),
+        format!("0{zeros}"),
+    ]
+}
+
+/// The last field of BYTES, with too few digits, too many, and others.
+fn byte_lists(all: &mut Vec<Vec<u8>>) {
     for digits in [
         0, 1, 2, 3, 4, 5, 7, 8, 31, 62, 63, 64, 65, 66, 67, 68, 128, 200,
     ] {
@@ -340,50 +361,50 @@ fn twice(all: &mut Vec<Vec<u8>>) {
 }
 
 /// Small things that are no sheet at all.
+const NO_SHEETS: [&[u8]; 39] = [
+    b"",
+    b"\n",
+    b"\n\n",
+    b"\r\n",
+    b"\t\n",
+    b" ",
+    b"\0",
+    b"\xFF\xFE",
+    b"\0\n",
+    b"BAD\t1\n",
+    b"STOP\t7\t000000\t1\n",
+    b"PAGE",
+    b"PAGE\n",
+    b"PAGE\t\n",
+    b"PAGE\t\t\n",
+    b"BYTES\n",
+    b"REG\n",
+    b"START\n",
+    b"START\t\t\t\n",
+    b"RUN\n",
+    b"RUN\t\n",
+    b"START\t00A000\t0\t0\nRUN",
+    b"START\t00A000\t0\t0\nRUN\t",
+    b"START\t00A000\t0\t0\nRUN\t1",
+    b"START\t00A000\t0\t0\nRUN\t\n",
+    b"START\t00A000\t0\t0\nRUN\t1\n\n",
+    b"START\t00A000\t0\t0\nRUN\t1\nX",
+    b"START\t00A000\t0\t0\nRUN\t1\n\0",
+    b"START\t00A000\t0\t0\nRUN\t1\n ",
+    b"START\t00A000\t0\t0\nRUN\t1\n\t",
+    b"START\t00A000\t0\t0\nRUN\t1\nPAGE\t1\t3003\n",
+    b"START\t00A000\t0\t0\nRUN\t1\r\n",
+    b"START\t00A000\t0\t0\r\nRUN\t1\r\n",
+    b"START\t00A000\t0\nRUN\t1\n",
+    b"START\t00A000\nRUN\t1\n",
+    b"START\t00A000\t0\t0\t0\nRUN\t1\n",
+    b"START\t00A000\t0\t0\nRUN\t1\t1\n",
+    b"START 00A000 0 0\nRUN 1\n",
+    b"start\t00A000\t0\t0\nrun\t1\n",
+];
+
 fn whole_sheets(all: &mut Vec<Vec<u8>>) {
-    for text in [
-        &b""[..],
-        b"\n",
-        b"\n\n",
-        b"\r\n",
-        b"\t\n",
-        b" ",
-        b"\0",
-        b"\xFF\xFE",
-        b"\0\n",
-        b"BAD\t1\n",
-        b"STOP\t7\t000000\t1\n",
-        b"PAGE",
-        b"PAGE\n",
-        b"PAGE\t\n",
-        b"PAGE\t\t\n",
-        b"BYTES\n",
-        b"REG\n",
-        b"START\n",
-        b"START\t\t\t\n",
-        b"RUN\n",
-        b"RUN\t\n",
-        b"START\t00A000\t0\t0\nRUN",
-        b"START\t00A000\t0\t0\nRUN\t",
-        b"START\t00A000\t0\t0\nRUN\t1",
-        b"START\t00A000\t0\t0\nRUN\t\n",
-        b"START\t00A000\t0\t0\nRUN\t1\n\n",
-        b"START\t00A000\t0\t0\nRUN\t1\nX",
-        b"START\t00A000\t0\t0\nRUN\t1\n\0",
-        b"START\t00A000\t0\t0\nRUN\t1\n ",
-        b"START\t00A000\t0\t0\nRUN\t1\n\t",
-        b"START\t00A000\t0\t0\nRUN\t1\nPAGE\t1\t3003\n",
-        b"START\t00A000\t0\t0\nRUN\t1\r\n",
-        b"START\t00A000\t0\t0\r\nRUN\t1\r\n",
-        b"START\t00A000\t0\nRUN\t1\n",
-        b"START\t00A000\nRUN\t1\n",
-        b"START\t00A000\t0\t0\t0\nRUN\t1\n",
-        b"START\t00A000\t0\t0\nRUN\t1\t1\n",
-        b"START 00A000 0 0\nRUN 1\n",
-        b"start\t00A000\t0\t0\nrun\t1\n",
-    ] {
-        all.push(text.to_vec());
-    }
+    all.extend(NO_SHEETS.iter().map(|text| text.to_vec()));
 }
 
 /// Sheets of just the largest size, and of more.

@@ -108,18 +108,11 @@ impl Census {
                 row.refused[5]
             );
         }
-        let mut others = 0;
-        let mut other_codes = 0;
-        for code in 0..=255u8 {
-            if op::find(code).is_none() {
-                let refused = self.rows[usize::from(code)].refused[5];
-                others += refused;
-                if refused > 0 {
-                    other_codes += 1;
-                }
-            }
-        }
-        text += &format!("other codes met: {other_codes} of 206, refused with 5: {others}\n");
+        let other_codes = (0..=255u8).filter(|&code| op::find(code).is_none());
+        let refused = other_codes.map(|code| self.rows[usize::from(code)].refused[5]);
+        let met: Vec<_> = refused.filter(|&times| times > 0).collect();
+        let (codes, times) = (met.len(), met.iter().sum::<u64>());
+        text += &format!("other codes met: {codes} of 206, refused with 5: {times}\n");
         text += &format!(
             "before the operation was known: 1: {}, 2: {}, 3: {}, 4: {}\n",
             self.unknown[1], self.unknown[2], self.unknown[3], self.unknown[4]

@@ -1,14 +1,32 @@
 //! The list of generated sheets for a seed.
 
 use crate::bad;
-use crate::dice::Dice;
+use crate::draft::Draft;
 use crate::programs;
 use crate::sweeps::SWEEPS;
+use common::dice::Dice;
 
 /// A generated sheet and what it was made for.
 pub struct Made {
     pub label: String,
     pub text: Vec<u8>,
+}
+
+impl Made {
+    fn of(label: &str, draft: Draft) -> Made {
+        Made {
+            label: label.to_string(),
+            text: draft.text(),
+        }
+    }
+
+    /// The same with something in it changed.
+    fn changed(&self, dice: &mut Dice) -> Made {
+        Made {
+            label: format!("{} changed", self.label),
+            text: bad::mutate(dice, &self.text),
+        }
+    }
 }
 
 /// Makes the sheets of one seed, one after another.
@@ -52,39 +70,15 @@ impl Generator {
     pub fn make(&mut self) -> Made {
         let index = self.index;
         self.index += 1;
-        let mut dice = Dice::for_sheet(self.seed, index);
+        let mut dice = Dice::for_one(self.seed, index);
         match index % 10 {
             0..=5 => self.next_sweep(&mut dice),
-            6 => Made {
-                label: "program".to_string(),
-                text: programs::program(&mut dice).text(),
-            },
+            6 => Made::of("program", programs::program(&mut dice)),
             7 => self.next_bad(&mut dice),
-            8 => {
-                let sheet = self.some_good(&mut dice);
-                Made {
-                    label: format!("{} changed", sheet.label),
-                    text: bad::mutate(&mut dice, &sheet.text),
-                }
-            }
-            _ => {
-                if index % 30 == 19 {
-                    Made {
-                        label: "program".to_string(),
-                        text: programs::program(&mut dice).text(),
-                    }
-                } else if index % 1_000 == 9 {
-                    Made {
-                        label: "long".to_string(),
-                        text: programs::long(&mut dice).text(),
-                    }
-                } else {
-                    Made {
-                        label: "wild".to_string(),
-                        text: programs::wild(&mut dice).text(),
-                    }
-                }
-            }
+            8 => self.some_good(&mut dice).changed(&mut dice),
+            _ if index % 30 == 19 => Made::of("program", programs::program(&mut dice)),
+            _ if index % 1_000 == 9 => Made::of("long", programs::long(&mut dice)),
+            _ => Made::of("wild", programs::wild(&mut dice)),
         }
     }
 
@@ -107,24 +101,18 @@ impl Generator {
         // All ways are through: change them a little.
         let way = dice.below(self.ways.len() as u32) as usize;
         if self.ways[way].len() > 2_000 {
-            let sheet = self.some_good(dice);
-            return Made {
-                label: format!("{} changed", sheet.label),
-                text: bad::mutate(dice, &sheet.text),
-            };
+            return self.some_good(dice).changed(dice);
         }
-        Made {
-            label: format!("way {way} changed"),
-            text: bad::mutate(dice, &self.ways[way]),
-        }
+        let way = Made {
+            label: format!("way {way}"),
+            text: self.ways[way].clone(),
+        };
+        way.changed(dice)
     }
 
     fn some_good(&self, dice: &mut Dice) -> Made {
         if dice.chance(1, 3) {
-            Made {
-                label: "program".to_string(),
-                text: programs::program(dice).text(),
-            }
+            Made::of("program", programs::program(dice))
         } else {
             let case = dice.roll() % self.sweep_cases;
             sweep_case(case, dice)
@@ -136,10 +124,8 @@ fn sweep_case(case: u64, dice: &mut Dice) -> Made {
     let mut left = case;
     for sweep in &SWEEPS {
         if left < u64::from(sweep.cases) {
-            return Made {
-                label: format!("{} {}", sweep.name, left),
-                text: (sweep.make)(left as u32, dice).text(),
-            };
+            let draft = (sweep.make)(left as u32, dice);
+            return Made::of(&format!("{} {left}", sweep.name), draft);
         }
         left -= u64::from(sweep.cases);
     }

@@ -5,9 +5,9 @@
 //! machine can also be used by itself, with other memory sizes and one step
 //! at a time.
 
+mod actions;
 pub mod bad;
 pub mod census;
-pub mod dice;
 pub mod draft;
 pub mod edges;
 pub mod generate;
@@ -18,6 +18,7 @@ pub mod operations;
 pub mod print;
 pub mod probe;
 pub mod programs;
+mod results;
 pub mod scene;
 pub mod sheet;
 pub mod sweeps;

@@ -1,10 +1,10 @@
 //! Machines for comparing engines directly, with memories of every size and
 //! now and then something wrong at the door: what a sheet cannot show.
 
-use crate::dice::Dice;
 use crate::generate::Generator;
 use crate::machine::{Machine, FRAME};
 use crate::{set_up, sheet};
+use common::dice::Dice;
 
 /// Makes machines and budgets from the generated sheets of a seed.
 pub struct Loose {

@@ -1,17 +1,9 @@
 //! Cases for calling the machine directly, with lists of any length and
-//! numbers of any size: what a sheet cannot show.
-//!
-//! A case in bytes, all numbers big-endian: kind (1 byte: 0 a step, 1 a run);
-//! length of memory (4 bytes), number of page words (2) and of registers (1);
-//! page words (2 each); registers (4 each); counter, code, mask and budget
-//! (4 each); number of pieces of memory (2); pieces: address (4), length (1),
-//! the bytes. What no piece names is zero.
-//!
-//! An outcome in text, numbers in decimal, fields parted by tabs: lines
-//! ANSWER number, place, count; STATE counter, code, mask; REGS all of them;
-//! MAP all page words; MEMORY its checksum.
+//! numbers of any size: what a sheet cannot show. `common::probe` has the form
+//! of a case and of an outcome.
 
 use crate::machine::{Machine, COMPLETED};
+use common::probe::{checksum, Call};
 
 /// One call of the machine.
 #[derive(Clone, Debug, PartialEq, Eq)]
@@ -39,27 +31,16 @@ impl Case {
     /// Append the case in bytes.
     pub fn push(&self, all: &mut Vec<u8>) {
         let machine = &self.machine;
-        all.push(u8::from(self.budget.is_some()));
-        all.extend((machine.memory.len() as u32).to_be_bytes());
-        all.extend((machine.map.len() as u16).to_be_bytes());
-        all.push(machine.registers.len() as u8);
-        for word in &machine.map {
-            all.extend(word.to_be_bytes());
-        }
-        for value in &machine.registers {
-            all.extend(value.to_be_bytes());
-        }
-        let budget = self.budget.unwrap_or(0);
-        for scalar in [machine.counter, machine.code, machine.mask, budget] {
-            all.extend(scalar.to_be_bytes());
-        }
-        let pieces = pieces(&machine.memory);
-        all.extend((pieces.len() as u16).to_be_bytes());
-        for (address, content) in pieces {
-            all.extend((address as u32).to_be_bytes());
-            all.push(content.len() as u8);
-            all.extend(content);
-        }
+        let call = Call {
+            memory: &machine.memory,
+            map: &machine.map,
+            registers: &machine.registers,
+            counter: machine.counter,
+            code: machine.code,
+            mask: machine.mask,
+            budget: self.budget,
+        };
+        call.push(all);
     }
 
     /// The case that the bytes begin with, and the rest of the bytes.
@@ -126,38 +107,6 @@ fn line<N: ToString>(name: &str, numbers: impl IntoIterator<Item = N>) -> String
     text
 }
 
-/// The bytes as digits to the base 251 after a leading 1, cut to 56 bits
-/// before each digit. The base is odd, so no byte can change alone unseen.
-pub fn checksum(memory: &[u8]) -> u64 {
-    memory
-        .iter()
-        .fold(1, |sum, byte| sum % (1 << 56) * 251 + u64::from(*byte))
-}
-
-/// The parts of memory that are not zero, each of at most 255 bytes.
-fn pieces(memory: &[u8]) -> Vec<(usize, &[u8])> {
-    let mut pieces = Vec::new();
-    let mut at = 0;
-    while at < memory.len() {
-        if memory[at] == 0 {
-            at += 1;
-            continue;
-        }
-        let mut end = at + 1;
-        // A gap of a few zeros is cheaper than a new piece.
-        while end < memory.len() && end - at < 255 {
-            let ahead = &memory[end..memory.len().min(end + 6)];
-            if ahead.iter().all(|byte| *byte == 0) {
-                break;
-            }
-            end += 1;
-        }
-        pieces.push((at, &memory[at..end]));
-        at = end;
-    }
-    pieces
-}
-
 struct Reader<'a> {
     left: &'a [u8],
 }
@@ -205,16 +154,5 @@ mod tests {
             left = rest;
         }
         assert!(left.is_empty());
-    }
-
-    #[test]
-    fn a_changed_byte_changes_the_checksum() {
-        let mut memory = vec![0; 8_192];
-        let before = checksum(&memory);
-        for at in [0, 1, 4_095, 8_191] {
-            memory[at] = 128;
-            assert_ne!(checksum(&memory), before);
-            memory[at] = 0;
-        }
     }
 }

@@ -1,27 +1,23 @@
 //! Sheets thrown wholly by dice: longer programs that mostly work, wild
 //! bytes that mostly do not, and a few long runs.
 
-use crate::dice::Dice;
 use crate::draft::{rr, rs, rx, si, ss, Draft};
 use crate::operations::{self as op, Form, OPERATIONS};
 use crate::scene::{fault_word, open_word, Scene, FAULTS};
+use common::dice::Dice;
+
+/// What the instructions of a program share.
+struct Shared {
+    base: u8,
+    index: u8,
+    usable: Vec<u8>,
+}
 
 /// A program of several instructions on shared pointers, its stores folded
 /// into a register at the end.
 pub fn program(dice: &mut Dice) -> Draft {
     let mut scene = Scene::new(dice);
-    if dice.chance(1, 10) {
-        let fault = dice.below(FAULTS);
-        let word = fault_word(dice, fault, scene.data_frames[1]);
-        scene.draft.page(scene.data_page + 1, word);
-    }
-    let hot = scene.data_at(dice.pick(&[64, 1_024, 2_000, 4_000, 4_064]));
-    let content: Vec<u8> = (0..32).map(|_| dice.edge_byte()).collect();
-    scene.put(hot, &content);
-    if dice.chance(1, 2) {
-        let content: Vec<u8> = (0..32).map(|_| dice.byte()).collect();
-        scene.put(hot + 32, &content);
-    }
+    let hot = hot_place(&mut scene, dice);
     let base = scene.pointer(dice, hot - 64);
     let index = scene.pointer(dice, 8);
     // Keep what the folding at the end needs apart from the program.
@@ -42,84 +38,129 @@ pub fn program(dice: &mut Dice) -> Draft {
             scene.draft.register(number, value);
         }
     }
-    let count = 2 + dice.below(8);
-    for _ in 0..count {
-        let row = dice.pick(&OPERATIONS);
-        let any = dice.chance(1, 40);
-        let r1 = register(dice, &usable, any);
-        let r2 = register(dice, &usable, any);
-        let boundary = op::boundary(row.code).max(1);
-        let mut reach = 64 + boundary * dice.below(48 / boundary);
-        if dice.chance(1, 40) {
-            reach += dice.below(4);
-        }
-        let other = 64 + dice.below(48);
-        let instruction = match row.form {
-            Form::RR => match row.code {
-                // Only what falls through or goes on right here.
-                op::BCR => rr(row.code, dice.below(16) as u8, 0),
-                op::BALR | op::BCTR => rr(row.code, r1, 0),
-                _ => rr(row.code, r1, r2),
-            },
-            Form::RX => match row.code {
-                op::BC | op::BAL | op::BCT => {
-                    // Over the next halfword, through a register loaded on
-                    // the way: LA cannot know its place, BALR does.
-                    let at = register(dice, &usable, false);
-                    if at == 0 {
-                        rx(op::LA, r1, 0, base, reach)
-                    } else {
-                        scene.add(rr(op::BALR, at, 0));
-                        rx(row.code, r1, 0, at, 4)
-                    }
-                }
-                _ => {
-                    let x = if dice.chance(1, 3) { index } else { 0 };
-                    let d = if x == 0 { reach } else { reach - 8 };
-                    rx(row.code, r1, x, base, d)
-                }
-            },
-            Form::RS => match row.code {
-                op::SLL | op::SRL => {
-                    let b = dice.pick(&[0, 0, r2]);
-                    rs(row.code, r1, r2, b, dice.below(80))
-                }
-                op::BXH | op::BXLE => {
-                    let at = register(dice, &usable, false);
-                    if at == 0 {
-                        rs(op::SLL, r1, r2, 0, 3)
-                    } else {
-                        scene.add(rr(op::BALR, at, 0));
-                        rs(row.code, r1, r2, at, 4)
-                    }
-                }
-                op::LM => {
-                    // One register, so that the pointers last.
-                    rs(row.code, r1, r1, base, reach & !3)
-                }
-                _ => rs(row.code, r1, r2, base, reach & !3),
-            },
-            Form::SI => si(row.code, dice.edge_byte(), base, reach),
-            Form::SS => {
-                let length = dice.pick(&[0, 1, 3, 7, 12]);
-                ss(row.code, length, base, reach, base, other)
-            }
-        };
+    let shared = Shared {
+        base,
+        index,
+        usable,
+    };
+    for _ in 0..2 + dice.below(8) {
+        let instruction = instruction(&mut scene, dice, &shared);
         scene.add(instruction);
     }
     if fold {
-        scene.free = kept[2..].to_vec();
-        scene.free.push(kept[0]);
-        scene.free.push(kept[1]);
-        scene
-            .draft
-            .registers
-            .retain(|&(number, _)| !kept.contains(&number));
-        scene.fold(dice, hot & !3, 16);
-        let budget = scene.steps;
-        return scene.finish_with(budget);
+        return folded(scene, dice, &kept, hot & !3);
     }
     scene.finish(dice)
+}
+
+/// A place in the data pages with something in it.
+fn hot_place(scene: &mut Scene, dice: &mut Dice) -> u32 {
+    if dice.chance(1, 10) {
+        let fault = dice.below(FAULTS);
+        let word = fault_word(dice, fault, scene.data_frames[1]);
+        scene.draft.page(scene.data_page + 1, word);
+    }
+    let hot = scene.data_at(dice.pick(&[64, 1_024, 2_000, 4_000, 4_064]));
+    let content: Vec<u8> = (0..32).map(|_| dice.edge_byte()).collect();
+    scene.put(hot, &content);
+    if dice.chance(1, 2) {
+        let content: Vec<u8> = (0..32).map(|_| dice.byte()).collect();
+        scene.put(hot + 32, &content);
+    }
+    hot
+}
+
+/// The end of a program: what it stored, folded with the registers kept.
+fn folded(mut scene: Scene, dice: &mut Dice, kept: &[u8], start: u32) -> Draft {
+    scene.free = kept[2..].to_vec();
+    scene.free.extend(&kept[..2]);
+    let registers = &mut scene.draft.registers;
+    registers.retain(|&(number, _)| !kept.contains(&number));
+    scene.fold(dice, start, 16);
+    let budget = scene.steps;
+    scene.finish_with(budget)
+}
+
+/// Any instruction, such that the program most often goes on.
+fn instruction(scene: &mut Scene, dice: &mut Dice, shared: &Shared) -> Vec<u8> {
+    let row = dice.pick(&OPERATIONS);
+    let any = dice.chance(1, 40);
+    let r1 = register(dice, &shared.usable, any);
+    let r2 = register(dice, &shared.usable, any);
+    let boundary = op::boundary(row.code).max(1);
+    let mut reach = 64 + boundary * dice.below(48 / boundary);
+    if dice.chance(1, 40) {
+        reach += dice.below(4);
+    }
+    let other = 64 + dice.below(48);
+    let base = shared.base;
+    match row.form {
+        Form::RR => match row.code {
+            // Only what falls through or goes on right here.
+            op::BCR => rr(row.code, dice.below(16) as u8, 0),
+            op::BALR | op::BCTR => rr(row.code, r1, 0),
+            _ => rr(row.code, r1, r2),
+        },
+        Form::RX => any_rx(scene, dice, shared, row.code, r1, reach),
+        Form::RS => any_rs(scene, dice, shared, row.code, (r1, r2), reach),
+        Form::SI => si(row.code, dice.edge_byte(), base, reach),
+        Form::SS => {
+            let length = dice.pick(&[0, 1, 3, 7, 12]);
+            ss(row.code, length, base, reach, base, other)
+        }
+    }
+}
+
+fn any_rx(
+    scene: &mut Scene,
+    dice: &mut Dice,
+    shared: &Shared,
+    code: u8,
+    r1: u8,
+    reach: u32,
+) -> Vec<u8> {
+    if matches!(code, op::BC | op::BAL | op::BCT) {
+        // Over the next halfword, through a register loaded on the way: LA
+        // cannot know its place, BALR does.
+        let at = register(dice, &shared.usable, false);
+        if at == 0 {
+            return rx(op::LA, r1, 0, shared.base, reach);
+        }
+        scene.add(rr(op::BALR, at, 0));
+        return rx(code, r1, 0, at, 4);
+    }
+    if dice.chance(1, 3) && shared.index != 0 {
+        rx(code, r1, shared.index, shared.base, reach - 8)
+    } else {
+        rx(code, r1, 0, shared.base, reach)
+    }
+}
+
+fn any_rs(
+    scene: &mut Scene,
+    dice: &mut Dice,
+    shared: &Shared,
+    code: u8,
+    (r1, r2): (u8, u8),
+    reach: u32,
+) -> Vec<u8> {
+    match code {
+        op::SLL | op::SRL => {
+            let b = dice.pick(&[0, 0, r2]);
+            rs(code, r1, r2, b, dice.below(80))
+        }
+        op::BXH | op::BXLE => {
+            let at = register(dice, &shared.usable, false);
+            if at == 0 {
+                return rs(op::SLL, r1, r2, 0, 3);
+            }
+            scene.add(rr(op::BALR, at, 0));
+            rs(code, r1, r2, at, 4)
+        }
+        // One register, so that the pointers last.
+        op::LM => rs(code, r1, r1, shared.base, reach & !3),
+        _ => rs(code, r1, r2, shared.base, reach & !3),
+    }
 }
 
 fn register(dice: &mut Dice, usable: &[u8], any: bool) -> u8 {
@@ -158,24 +199,29 @@ pub fn wild(dice: &mut Dice) -> Draft {
     }
     scene.offset = dice.pick(&[0, 0, 2, 2_040, 4_080, 4_090]);
     for _ in 0..1 + dice.below(6) {
-        let code = if dice.chance(9, 10) {
-            dice.pick(&OPERATIONS).code
-        } else {
-            dice.byte()
-        };
-        let mut text = vec![code];
-        for _ in 1..op::length(code) {
-            text.push(dice.byte());
-        }
-        // Small displacements and aligned ones now and then.
-        if text.len() == 4 && dice.chance(1, 2) {
-            text[2] &= 0xF0;
-            text[3] &= 0xFC;
-        }
-        scene.add(text);
+        scene.add(wild_text(dice));
     }
     let budget = dice.pick(&[1, 2, 5, 10, 50, 200]);
     scene.finish_with(budget)
+}
+
+/// An instruction whose every field is thrown.
+fn wild_text(dice: &mut Dice) -> Vec<u8> {
+    let code = if dice.chance(9, 10) {
+        dice.pick(&OPERATIONS).code
+    } else {
+        dice.byte()
+    };
+    let mut text = vec![code];
+    for _ in 1..op::length(code) {
+        text.push(dice.byte());
+    }
+    // Small displacements and aligned ones now and then.
+    if text.len() == 4 && dice.chance(1, 2) {
+        text[2] &= 0xF0;
+        text[3] &= 0xFC;
+    }
+    text
 }
 
 /// A long run: fill a field by a move, then fold it again and again.

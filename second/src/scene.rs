@@ -2,10 +2,10 @@
 //! other, and registers not yet spoken for. The sweeps write their
 //! instructions into a scene.
 
-use crate::dice::Dice;
 use crate::draft::{rr, rs, rx, si, ss, Draft};
 use crate::machine::{E, FRAME, G, H, M, S, U, W, XXX};
 use crate::operations::{self as op, Form};
+use common::dice::Dice;
 
 pub const ADDRESS_BITS: u32 = 0x00FF_FFFF;
 pub const OPEN: u16 = U | S;
@@ -29,21 +29,7 @@ pub struct Scene {
 
 impl Scene {
     pub fn new(dice: &mut Dice) -> Scene {
-        let code_page = match dice.below(3) {
-            0 => 10,
-            1 => dice.pick(&[0, 1, 9, 63, 64, 110, 127, 255, 256, 448, 509]),
-            _ => dice.below(510),
-        };
-        let data_page = loop {
-            let page = match dice.below(3) {
-                0 => 20,
-                1 => dice.pick(&[0, 2, 62, 63, 128, 383, 505, 509]),
-                _ => dice.below(510),
-            };
-            if page > code_page + 1 || page + 1 < code_page {
-                break page;
-            }
-        };
+        let (code_page, data_page) = two_pages(dice);
         let mut frames: Vec<u16> = (0..16).collect();
         dice.shuffle(&mut frames);
         let mut scene = Scene {
@@ -58,7 +44,7 @@ impl Scene {
                 0
             },
             code: Vec::new(),
-            free: dice.register_order(),
+            free: registers_in_some_order(dice),
             steps: 0,
         };
         let word = open_word(dice, scene.code_frames[0], false);
@@ -284,81 +270,9 @@ impl Scene {
             return vec![code, dice.byte()];
         };
         match row.form {
-            Form::RR => match code {
-                op::BCR | op::BALR | op::BCTR => {
-                    let next = self.here().wrapping_add(2);
-                    let r1 = if dice.chance(1, 8) {
-                        0
-                    } else {
-                        let taken = self.take();
-                        let value = dice.edge_word();
-                        self.draft.register(taken, value);
-                        taken
-                    };
-                    let r2 = match dice.below(6) {
-                        0 => 0,
-                        1 if r1 != 0 => {
-                            self.draft.register(r1, next);
-                            r1
-                        }
-                        _ => self.pointer(dice, next),
-                    };
-                    let r1 = if code == op::BCR {
-                        dice.below(16) as u8
-                    } else {
-                        r1
-                    };
-                    rr(code, r1, r2)
-                }
-                _ => {
-                    let r1 = self.valued(dice);
-                    let r2 = if dice.chance(1, 8) {
-                        r1
-                    } else {
-                        self.valued(dice)
-                    };
-                    rr(code, r1, r2)
-                }
-            },
-            Form::RX => match code {
-                op::BC | op::BAL | op::BCT => {
-                    let next = self.here().wrapping_add(4);
-                    let (x, b, d) = self.indexed(dice, next);
-                    let r1 = self.valued(dice);
-                    rx(code, r1, x, b, d)
-                }
-                _ => {
-                    let (x, b, d) = self.indexed(dice, target);
-                    let r1 = if b != 0 && dice.chance(1, 12) {
-                        b
-                    } else {
-                        self.valued(dice)
-                    };
-                    rx(code, r1, x, b, d)
-                }
-            },
-            Form::RS => match code {
-                op::SLL | op::SRL => {
-                    let amount = dice.pick(&[0, 1, 8, 31, 32, 63, 64, 100]);
-                    let (b, d) = self.based(dice, amount);
-                    let r1 = self.valued(dice);
-                    rs(code, r1, dice.below(16) as u8, b, d)
-                }
-                op::BXH | op::BXLE => {
-                    let next = self.here().wrapping_add(4);
-                    let (b, d) = self.based(dice, next);
-                    let r1 = self.valued(dice);
-                    let r3 = self.valued(dice);
-                    rs(code, r1, r3, b, d)
-                }
-                _ => {
-                    let (b, d) = self.based(dice, target);
-                    let r1 = dice.below(16) as u8;
-                    let words = dice.pick(&[1, 1, 2, 3, 16]);
-                    let r3 = ((u32::from(r1) + words - 1) % 16) as u8;
-                    rs(code, r1, r3, b, d)
-                }
-            },
+            Form::RR => self.aimed_rr(dice, code),
+            Form::RX => self.aimed_rx(dice, code, target),
+            Form::RS => self.aimed_rs(dice, code, target),
             Form::SI => {
                 let (b, d) = self.based(dice, target);
                 si(code, dice.edge_byte(), b, d)
@@ -369,6 +283,82 @@ impl Scene {
                 let other = self.data_at(dice.pick(&[8, 65, 1_001, 2_040, 3_700, 4_090]));
                 let (b2, d2) = self.based(dice, other);
                 ss(code, length, b1, d1, b2, d2)
+            }
+        }
+    }
+
+    fn aimed_rr(&mut self, dice: &mut Dice, code: u8) -> Vec<u8> {
+        if !matches!(code, op::BCR | op::BALR | op::BCTR) {
+            let r1 = self.valued(dice);
+            let r2 = if dice.chance(1, 8) {
+                r1
+            } else {
+                self.valued(dice)
+            };
+            return rr(code, r1, r2);
+        }
+        let next = self.here().wrapping_add(2);
+        let r1 = if dice.chance(1, 8) {
+            0
+        } else {
+            let taken = self.take();
+            let value = dice.edge_word();
+            self.draft.register(taken, value);
+            taken
+        };
+        let r2 = match dice.below(6) {
+            0 => 0,
+            1 if r1 != 0 => {
+                self.draft.register(r1, next);
+                r1
+            }
+            _ => self.pointer(dice, next),
+        };
+        let r1 = if code == op::BCR {
+            dice.below(16) as u8
+        } else {
+            r1
+        };
+        rr(code, r1, r2)
+    }
+
+    fn aimed_rx(&mut self, dice: &mut Dice, code: u8, target: u32) -> Vec<u8> {
+        if matches!(code, op::BC | op::BAL | op::BCT) {
+            let next = self.here().wrapping_add(4);
+            let (x, b, d) = self.indexed(dice, next);
+            let r1 = self.valued(dice);
+            return rx(code, r1, x, b, d);
+        }
+        let (x, b, d) = self.indexed(dice, target);
+        let r1 = if b != 0 && dice.chance(1, 12) {
+            b
+        } else {
+            self.valued(dice)
+        };
+        rx(code, r1, x, b, d)
+    }
+
+    fn aimed_rs(&mut self, dice: &mut Dice, code: u8, target: u32) -> Vec<u8> {
+        match code {
+            op::SLL | op::SRL => {
+                let amount = dice.pick(&[0, 1, 8, 31, 32, 63, 64, 100]);
+                let (b, d) = self.based(dice, amount);
+                let r1 = self.valued(dice);
+                rs(code, r1, dice.below(16) as u8, b, d)
+            }
+            op::BXH | op::BXLE => {
+                let next = self.here().wrapping_add(4);
+                let (b, d) = self.based(dice, next);
+                let r1 = self.valued(dice);
+                let r3 = self.valued(dice);
+                rs(code, r1, r3, b, d)
+            }
+            _ => {
+                let (b, d) = self.based(dice, target);
+                let r1 = dice.below(16) as u8;
+                let words = dice.pick(&[1, 1, 2, 3, 16]);
+                let r3 = ((u32::from(r1) + words - 1) % 16) as u8;
+                rs(code, r1, r3, b, d)
             }
         }
     }
@@ -418,6 +408,32 @@ impl Scene {
         self.put(start, &code);
         self.draft.counter = start;
     }
+}
+
+/// A page for code and one for data; neither is the one after the other.
+fn two_pages(dice: &mut Dice) -> (u32, u32) {
+    let code_page = match dice.below(3) {
+        0 => 10,
+        1 => dice.pick(&[0, 1, 9, 63, 64, 110, 127, 255, 256, 448, 509]),
+        _ => dice.below(510),
+    };
+    loop {
+        let page = match dice.below(3) {
+            0 => 20,
+            1 => dice.pick(&[0, 2, 62, 63, 128, 383, 505, 509]),
+            _ => dice.below(510),
+        };
+        if page > code_page + 1 || page + 1 < code_page {
+            return (code_page, page);
+        }
+    }
+}
+
+/// The numbers 1 to 15 in some order.
+fn registers_in_some_order(dice: &mut Dice) -> Vec<u8> {
+    let mut order: Vec<u8> = (1..16).collect();
+    dice.shuffle(&mut order);
+    order
 }
 
 /// The word of an open page: marks may be up already, H may be up without M.

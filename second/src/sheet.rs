@@ -64,56 +64,61 @@ pub fn read(text: &[u8]) -> Result<Sheet, usize> {
 /// Takes in one line; the stage after it, or nothing when it is bad.
 fn read_line(line: &[u8], stage: Stage, sheet: &mut Sheet) -> Option<Stage> {
     let fields: Vec<&[u8]> = line.split(|&byte| byte == b'\t').collect();
-    if fields[0] == b"PAGE" {
-        if stage > Stage::Pages || fields.len() != 3 {
-            return None;
+    match (fields[0], &fields[1..]) {
+        (b"PAGE", [page, word]) if stage <= Stage::Pages => {
+            read_page(sheet, page, word)?;
+            Some(Stage::Pages)
         }
-        let page = decimal(fields[1], 511)? as usize;
-        let word = hexadecimal(fields[2], 4)? as u16;
-        if sheet.pages.iter().any(|&(other, _)| other == page) {
-            return None;
+        (b"BYTES", [address, content]) if stage <= Stage::Bytes => {
+            read_bytes(sheet, address, content)?;
+            Some(Stage::Bytes)
         }
-        sheet.pages.push((page, word));
-        Some(Stage::Pages)
-    } else if fields[0] == b"BYTES" {
-        if stage > Stage::Bytes || fields.len() != 3 {
-            return None;
+        (b"REG", [number, value]) if stage <= Stage::Registers => {
+            read_register(sheet, number, value)?;
+            Some(Stage::Registers)
         }
-        let address = decimal(fields[1], MEMORY as u32 - 1)? as usize;
-        let content = byte_list(fields[2])?;
-        if address + content.len() > MEMORY {
-            return None;
+        (b"START", [counter, code, mask]) if stage <= Stage::Registers => {
+            sheet.counter = hexadecimal(counter, 6)?;
+            sheet.code = decimal(code, 3)?;
+            sheet.mask = decimal(mask, 15)?;
+            Some(Stage::Started)
         }
-        sheet.bytes.push((address, content));
-        Some(Stage::Bytes)
-    } else if fields[0] == b"REG" {
-        if stage > Stage::Registers || fields.len() != 3 {
-            return None;
+        (b"RUN", [budget]) if stage == Stage::Started => {
+            sheet.budget = decimal(budget, 65_535)?;
+            Some(Stage::Finished)
         }
-        let number = decimal(fields[1], 15)? as usize;
-        let value = hexadecimal(fields[2], 8)?;
-        if sheet.registers.iter().any(|&(other, _)| other == number) {
-            return None;
-        }
-        sheet.registers.push((number, value));
-        Some(Stage::Registers)
-    } else if fields[0] == b"START" {
-        if stage > Stage::Registers || fields.len() != 4 {
-            return None;
-        }
-        sheet.counter = hexadecimal(fields[1], 6)?;
-        sheet.code = decimal(fields[2], 3)?;
-        sheet.mask = decimal(fields[3], 15)?;
-        Some(Stage::Started)
-    } else if fields[0] == b"RUN" {
-        if stage != Stage::Started || fields.len() != 2 {
-            return None;
-        }
-        sheet.budget = decimal(fields[1], 65_535)?;
-        Some(Stage::Finished)
-    } else {
-        None
+        _ => None,
     }
+}
+
+fn read_page(sheet: &mut Sheet, page: &[u8], word: &[u8]) -> Option<()> {
+    let page = decimal(page, 511)? as usize;
+    let word = hexadecimal(word, 4)? as u16;
+    if sheet.pages.iter().any(|&(other, _)| other == page) {
+        return None;
+    }
+    sheet.pages.push((page, word));
+    Some(())
+}
+
+fn read_bytes(sheet: &mut Sheet, address: &[u8], content: &[u8]) -> Option<()> {
+    let address = decimal(address, MEMORY as u32 - 1)? as usize;
+    let content = byte_list(content)?;
+    if address + content.len() > MEMORY {
+        return None;
+    }
+    sheet.bytes.push((address, content));
+    Some(())
+}
+
+fn read_register(sheet: &mut Sheet, number: &[u8], value: &[u8]) -> Option<()> {
+    let number = decimal(number, 15)? as usize;
+    let value = hexadecimal(value, 8)?;
+    if sheet.registers.iter().any(|&(other, _)| other == number) {
+        return None;
+    }
+    sheet.registers.push((number, value));
+    Some(())
 }
 
 /// A decimal number without leading zeros, at most `largest`.

@@ -7,10 +7,10 @@ mod pages;
 mod runs;
 mod values;
 
-use crate::dice::Dice;
 use crate::draft::{rr, Draft};
 use crate::operations as op;
 use crate::scene::{Scene, FAULTS};
+use common::dice::Dice;
 
 pub struct Sweep {
     pub name: &'static str,

@@ -1,8 +1,8 @@
 //! The generated sheets reach what they should.
 
-use second::census;
+use second::census::{self, Census};
 use second::generate::Generator;
-use second::operations::{self as op, Form, OPERATIONS};
+use second::operations::{self as op, Form, Operation, OPERATIONS};
 use second::sheet;
 
 #[test]
@@ -12,41 +12,13 @@ fn twenty_thousand_sheets_reach_everything() {
         assert_eq!(census.sheets, 20_000);
         assert!(census.bad >= 1_000, "BAD {}", census.bad);
         for number in [1, 2, 3, 4, 5, 7] {
-            assert!(
-                census.stops[number] >= 500,
-                "STOP {number}: {}",
-                census.stops[number]
-            );
+            let stops = census.stops[number];
+            assert!(stops >= 500, "STOP {number}: {stops}");
         }
         assert_eq!(census.stops[0], 0);
         assert_eq!(census.stops[6], 0);
         for operation in OPERATIONS {
-            let name = operation.name;
-            let row = &census.rows[usize::from(operation.code)];
-            // In so many sheets, not only so many times in one loop.
-            assert!(
-                row.sheets >= 200,
-                "{name} completed in {} sheets",
-                row.sheets
-            );
-            let (others, twos) = match operation.form {
-                Form::RR => (0, 0),
-                _ if op::boundary(operation.code) > 1 => (10, 15),
-                _ if op::boundary(operation.code) == 1 => (10, 0),
-                _ => (3, 0),
-            };
-            for number in [1, 3, 4] {
-                let refused = row.refused[number];
-                assert!(refused >= others, "{name} refused with {number}: {refused}");
-                assert!(others > 0 || refused == 0);
-            }
-            assert!(
-                row.refused[2] >= twos,
-                "{name} refused with 2: {}",
-                row.refused[2]
-            );
-            assert!(twos > 0 || row.refused[2] == 0);
-            assert_eq!(row.refused[5], 0);
+            reaches(&census, operation);
         }
         for code in 0..=255u8 {
             if op::find(code).is_none() {
@@ -59,6 +31,30 @@ fn twenty_thousand_sheets_reach_everything() {
             assert!(census.unknown[number] >= 50);
         }
     }
+}
+
+/// An operation completes, and is refused in every way in which it can be.
+fn reaches(census: &Census, operation: Operation) {
+    let name = operation.name;
+    let row = &census.rows[usize::from(operation.code)];
+    // In so many sheets, not only so many times in one loop.
+    let sheets = row.sheets;
+    assert!(sheets >= 200, "{name} completed in {sheets} sheets");
+    let (others, twos) = match operation.form {
+        Form::RR => (0, 0),
+        _ if op::boundary(operation.code) > 1 => (10, 15),
+        _ if op::boundary(operation.code) == 1 => (10, 0),
+        _ => (3, 0),
+    };
+    for number in [1, 3, 4] {
+        let refused = row.refused[number];
+        assert!(refused >= others, "{name} refused with {number}: {refused}");
+        assert!(others > 0 || refused == 0);
+    }
+    let refused = row.refused[2];
+    assert!(refused >= twos, "{name} refused with 2: {refused}");
+    assert!(twos > 0 || refused == 0);
+    assert_eq!(row.refused[5], 0);
 }
 
 #[test]

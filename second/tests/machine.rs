@@ -197,8 +197,6 @@ fn a_run_is_its_steps_one_after_another() {
 
 #[test]
 fn a_refused_move_stores_nothing() {
-    // MVC of eight bytes over the end of page 20 into page 21, from page 30.
-    let code = [0xD2, 0x07, 0x2F, 0xFC, 0x30, 0x00];
     for (word, number) in [
         (0x0000, 3),
         (0x1006, 3),
@@ -207,52 +205,48 @@ fn a_refused_move_stores_nothing() {
         (0x3046, 4),
         (0x3010, 1),
     ] {
-        let mut machine = with_code(65_536, &code);
-        machine.map[20] = 0x3004;
+        let mut machine = with_long_move();
         machine.map[21] = word;
-        machine.map[30] = 0x3005;
-        machine.registers[2] = 0x01_4000;
-        machine.registers[3] = 0x01_E000;
-        for index in 0..8 {
-            machine.memory[5 * 4_096 + index] = 0xA0 + index as u8;
-        }
         let before = machine.clone();
-        assert_eq!(
-            machine.step(),
-            Step {
-                number,
-                place: 0x01_5000
-            }
-        );
+        let place = 0x01_5000;
+        assert_eq!(machine.step(), Step { number, place });
         assert_eq!(machine, before);
-        // With the page open, all eight bytes go over, and both pages say so.
         machine.map[21] = 0x3006;
-        assert_eq!(
-            machine.step(),
-            Step {
-                number: 0,
-                place: 0
-            }
-        );
-        for index in 0..8 {
-            let real = if index < 4 {
-                4 * 4_096 + 4_092 + index
-            } else {
-                6 * 4_096 + index - 4
-            };
-            assert_eq!(machine.memory[real], 0xA0 + index as u8);
-        }
-        let changed = machine
-            .memory
-            .iter()
-            .zip(&before.memory)
-            .filter(|(a, b)| a != b)
-            .count();
-        assert_eq!(changed, 8);
-        assert_eq!(machine.map[20], 0xF004);
-        assert_eq!(machine.map[21], 0xF006);
-        assert_eq!(machine.map[30], 0x7005);
+        moves_all(machine);
     }
+}
+
+/// MVC of eight bytes over the end of page 20 into page 21, from page 30.
+fn with_long_move() -> Machine {
+    let mut machine = with_code(65_536, &[0xD2, 0x07, 0x2F, 0xFC, 0x30, 0x00]);
+    machine.map[20] = 0x3004;
+    machine.map[30] = 0x3005;
+    machine.registers[2] = 0x01_4000;
+    machine.registers[3] = 0x01_E000;
+    for index in 0..8 {
+        machine.memory[5 * 4_096 + index] = 0xA0 + index as u8;
+    }
+    machine
+}
+
+/// With the page open, all eight bytes go over, and both pages say so.
+fn moves_all(mut machine: Machine) {
+    let before = machine.clone();
+    let (number, place) = (0, 0);
+    assert_eq!(machine.step(), Step { number, place });
+    for index in 0..8 {
+        let real = if index < 4 {
+            4 * 4_096 + 4_092 + index
+        } else {
+            6 * 4_096 + index - 4
+        };
+        assert_eq!(machine.memory[real], 0xA0 + index as u8);
+    }
+    let pairs = machine.memory.iter().zip(&before.memory);
+    assert_eq!(pairs.filter(|(a, b)| a != b).count(), 8);
+    assert_eq!(machine.map[20], 0xF004);
+    assert_eq!(machine.map[21], 0xF006);
+    assert_eq!(machine.map[30], 0x7005);
 }
 
 #[test]
@@ -313,46 +307,50 @@ fn memory_of_other_sizes() {
         let mut machine = Machine::new(size);
         assert!(!machine.wrong_at_the_door());
         machine.map[10] = 0x3000 + (pages - 1) as u16;
-        let last = 0x00_AFFF;
-        assert_eq!(machine.look_up(last, Access::Load), Ok(size - 1));
+        assert_eq!(machine.look_up(0x00_AFFF, Access::Load), Ok(size - 1));
         machine.map[10] = 0x3600 + (pages - 1) as u16;
         assert_eq!(machine.look_up(0x00_A7FF, Access::Store), Ok(size - 1));
         if pages < 64 {
-            machine.map[10] = 0x3000 + pages as u16;
-            for address in [0x00_A000, last] {
-                assert_eq!(
-                    machine.look_up(address, Access::Load),
-                    Err(Refusal {
-                        number: 1,
-                        place: address
-                    })
-                );
-            }
-            assert_eq!(machine.run(0).number, 7);
-            machine.counter = 0x00_A000;
-            assert_eq!(
-                machine.run(1),
-                Run {
-                    number: 1,
-                    place: 0x00_A000,
-                    count: 0
-                }
-            );
+            past_memory(&mut machine, pages as u16);
         }
         // The whole case, in the last frame.
         machine.map[10] = 0x3000 + (pages - 1) as u16;
         machine.memory[size - 4_096..size - 4_092].copy_from_slice(&[0x41, 0x10, 0x00, 0x05]);
         machine.counter = 0x00_A000;
+        let (number, place, count) = (7, 0, 1);
+        let ran = machine.run(1);
         assert_eq!(
-            machine.run(1),
+            ran,
             Run {
-                number: 7,
-                place: 0,
-                count: 1
+                number,
+                place,
+                count
             }
         );
         assert_eq!(machine.registers[1], 5);
     }
+}
+
+/// Page 10 on a frame just past memory: all of it is refused.
+fn past_memory(machine: &mut Machine, frame: u16) {
+    machine.map[10] = 0x3000 + frame;
+    let number = 1;
+    for place in [0x00_A000, 0x00_AFFF] {
+        let looked = machine.look_up(place, Access::Load);
+        assert_eq!(looked, Err(Refusal { number, place }));
+    }
+    assert_eq!(machine.run(0).number, 7);
+    machine.counter = 0x00_A000;
+    let (place, count) = (0x00_A000, 0);
+    let ran = machine.run(1);
+    assert_eq!(
+        ran,
+        Run {
+            number,
+            place,
+            count
+        }
+    );
 }
 
 #[test]

@@ -1,6 +1,6 @@
 //! Rules that hold for every sheet, tried on generated ones.
 
-use second::dice::Dice;
+use common::dice::Dice;
 use second::generate::Generator;
 use second::{answer, set_up, sheet};
 

@@ -1,38 +1,20 @@
 //! Generated cases, drawn towards the edges: single steps and short runs of a machine whose pages are of every kind, share few
 //! frames, and are reached near their ends.
 
-use crate::dice::Dice;
 use crate::machine::{Machine, BUDGET, PAGE};
+use common::dice::{Dice, EDGE_WORDS};
+use common::set::{length, SET};
 
 pub struct Case {
     pub machine: Machine,
     /// None for a single step.
     pub budget: Option<u32>,
     /// The first instruction's bytes.
-    pub code: [u8; 6],
+    pub text: [u8; 6],
 }
 
-/// The fifty operation codes of the set.
-pub const SET: [u8; 50] = [
-    0x05, 0x06, 0x07, 0x10, 0x11, 0x12, 0x13, 0x14, 0x15, 0x16, 0x17, 0x18, 0x19, 0x1A, 0x1B, 0x1E,
-    0x1F, 0x40, 0x41, 0x42, 0x43, 0x45, 0x46, 0x47, 0x48, 0x50, 0x54, 0x55, 0x56, 0x57, 0x58, 0x59,
-    0x5A, 0x5B, 0x5E, 0x5F, 0x86, 0x87, 0x88, 0x89, 0x90, 0x91, 0x92, 0x94, 0x95, 0x96, 0x97, 0x98,
-    0xD2, 0xD5,
-];
-
-const EDGE_WORDS: [u32; 8] = [
-    0,
-    1,
-    2,
-    0x7FFF_FFFF,
-    0x8000_0000,
-    0x8000_0001,
-    0xFFFF_FFFE,
-    0xFFFF_FFFF,
-];
-
 /// Displacements near the ends of pages, half pages, and fields that reach over them.
-const EDGES: [u32; 14] = [
+const DISPLACEMENTS: [u32; 14] = [
     0, 2, 4, 0x100, 0x700, 0x7C0, 0x7FA, 0x7FC, 0x7FE, 0x800, 0xF00, 0xFC0, 0xFFC, 0xFFE,
 ];
 
@@ -42,7 +24,7 @@ const FAR: [u32; 6] = [
 ];
 
 pub fn case(number: u64) -> Case {
-    let mut dice = Dice::new(number.wrapping_mul(0xD134_2543_DE82_EF95));
+    let mut dice = Dice::for_one(0, number);
     let frames = dice.pick(&[1, 2, 2, 4, 4, 4, 4, 4, 4, 4, 4, 8, 8, 8, 16, 64]);
     let mut machine = Machine::new(frames as usize * PAGE);
     fill(&mut dice, &mut machine.memory);
@@ -55,7 +37,7 @@ pub fn case(number: u64) -> Case {
     machine.counter = counter(&mut dice);
     machine.code = dice.below(4);
     machine.mask = dice.below(16);
-    let code = place_code(&mut dice, &mut machine);
+    let text = place_code(&mut dice, &mut machine);
     let budget = match dice.below(4) {
         0 => Some(dice.below(12)),
         _ => None,
@@ -63,7 +45,7 @@ pub fn case(number: u64) -> Case {
     let mut case = Case {
         machine,
         budget,
-        code,
+        text,
     };
     if dice.once_in(80) {
         spoil(&mut dice, &mut case);
@@ -92,7 +74,7 @@ fn spoil(dice: &mut Dice, case: &mut Case) {
 fn fill(dice: &mut Dice, memory: &mut [u8]) {
     for eight in memory.chunks_exact_mut(8) {
         let bytes = match dice.below(4) {
-            0 => [dice.roll() as u8; 8],
+            0 => [dice.byte(); 8],
             1 => [0; 8],
             _ => dice.roll().to_be_bytes(),
         };
@@ -124,8 +106,8 @@ fn page_word(dice: &mut Dice, frames: u32) -> u16 {
 fn address(dice: &mut Dice) -> u32 {
     let near = match dice.below(20) {
         0 => dice.pick(&FAR),
-        1 | 2 => dice.roll() as u32 & 0x1F_FFFF,
-        _ => dice.below(512) << 12 | dice.pick(&EDGES),
+        1 | 2 => dice.word() & 0x1F_FFFF,
+        _ => dice.below(512) << 12 | dice.pick(&DISPLACEMENTS),
     };
     match dice.below(4) {
         0 => near + dice.below(4),
@@ -136,7 +118,7 @@ fn address(dice: &mut Dice) -> u32 {
 fn content(dice: &mut Dice) -> u32 {
     match dice.below(8) {
         0 | 1 => dice.pick(&EDGE_WORDS),
-        2 if dice.once_in(2) => dice.roll() as u32,
+        2 if dice.once_in(2) => dice.word(),
         2 => address(dice) | dice.below(256) << 24,
         _ => address(dice),
     }
@@ -146,7 +128,7 @@ fn counter(dice: &mut Dice) -> u32 {
     match dice.below(40) {
         0 => address(dice) & 0xFF_FFFF | 1,
         1 => dice.pick(&FAR),
-        _ => (dice.below(512) << 12) + dice.pick(&EDGES),
+        _ => (dice.below(512) << 12) + dice.pick(&DISPLACEMENTS),
     }
 }
 
@@ -154,14 +136,13 @@ fn counter(dice: &mut Dice) -> u32 {
 fn place_code(dice: &mut Dice, machine: &mut Machine) -> [u8; 6] {
     let first = instruction(dice);
     let mut at = machine.counter;
-    let mut code = first;
+    let mut text = first;
     for _ in 0..6 {
-        let length = [2, 4, 4, 6][usize::from(code[0] >> 6)];
-        for byte in &code[..length] {
+        for byte in &text[..length(text[0])] {
             put(machine, at, *byte);
             at += 1;
         }
-        code = instruction(dice);
+        text = instruction(dice);
     }
     first
 }
@@ -178,26 +159,26 @@ fn put(machine: &mut Machine, address: u32, byte: u8) {
 }
 
 fn instruction(dice: &mut Dice) -> [u8; 6] {
-    let mut code = [0; 6];
-    code[0] = match dice.below(20) {
-        0 => dice.roll() as u8,
+    let mut text = [0; 6];
+    text[0] = match dice.below(20) {
+        0 => dice.byte(),
         1 => 0xD2,
         2 => 0xD5,
-        _ => dice.pick(&SET),
+        _ => dice.pick(&SET).operation,
     };
-    code[1] = match code[0] >> 6 {
+    text[1] = match text[0] >> 6 {
         3 => dice.pick(&[0, 1, 3, 7, 63, 127, 254, 255]),
-        1 if dice.once_in(2) => dice.roll() as u8 & 0xF0,
-        _ => dice.roll() as u8,
+        1 if dice.once_in(2) => dice.byte() & 0xF0,
+        _ => dice.byte(),
     };
     let first = based(dice);
     let second = match dice.below(3) {
         0 => first.wrapping_add(dice.below(9) as u16).wrapping_sub(4),
         _ => based(dice),
     };
-    code[2..4].copy_from_slice(&first.to_be_bytes());
-    code[4..].copy_from_slice(&second.to_be_bytes());
-    code
+    text[2..4].copy_from_slice(&first.to_be_bytes());
+    text[4..].copy_from_slice(&second.to_be_bytes());
+    text
 }
 
 /// A base register and a displacement.

@@ -1,11 +1,13 @@
 //! The checks that come before any figure: every engine does the same.
 
-use crate::cases::{case, Case, SET};
+use crate::cases::{case, Case};
 use crate::differ::difference;
 use crate::engine::{Engine, ENGINES};
 use crate::hercules::Hercules;
 use crate::machine::{Answer, Machine, BUDGET};
 use crate::programs::Program;
+use common::bytes::to_hex;
+use common::set::SET;
 
 const CASES: u64 = 20_000;
 
@@ -63,13 +65,13 @@ fn done(engine: Engine, case: &Case) -> (Machine, Answer) {
 }
 
 fn shown(number: u64, case: &Case) -> String {
-    let code: String = case.code.iter().map(|b| format!("{b:02X}")).collect();
+    let text = to_hex(&case.text);
     let kind = match case.budget {
         None => "a step".to_string(),
         Some(budget) => format!("a run of {budget}"),
     };
     let counter = case.machine.counter;
-    format!("generated case {number}, {kind} from {counter:06X}, code {code}")
+    format!("generated case {number}, {kind} from {counter:06X}, instruction {text}")
 }
 
 /// Both ordinary engines against the proved one on generated cases. That every operation completes and every number comes up
@@ -80,8 +82,17 @@ pub fn generated() -> Result<u32, String> {
     for number in 0..CASES {
         let case = case(number);
         let (wanted, answer) = done(Engine::Proved, &case);
-        completed[usize::from(case.code[0])] |= answer.number == 0;
-        answered[answer.number as usize % 8] = true;
+        completed[usize::from(case.text[0])] |= answer.number == 0;
+        match answered.get_mut(answer.number as usize) {
+            Some(came) => *came = true,
+            None => {
+                return Err(format!(
+                    "{}: the number {}",
+                    shown(number, &case),
+                    answer.number
+                ))
+            }
+        }
         for engine in &ENGINES[1..] {
             let (machine, got) = done(*engine, &case);
             if let Some(found) = difference((&machine, got), (&wanted, answer)) {
@@ -90,8 +101,11 @@ pub fn generated() -> Result<u32, String> {
             }
         }
     }
-    if let Some(operation) = SET.iter().find(|op| !completed[usize::from(**op)]) {
-        return Err(format!("no generated case completes {operation:02X}"));
+    if let Some(never) = SET
+        .iter()
+        .find(|one| !completed[usize::from(one.operation)])
+    {
+        return Err(format!("no generated case completes {}", never.name));
     }
     match answered.iter().position(|came| !came) {
         Some(number) => Err(format!("no generated case answers {number}")),

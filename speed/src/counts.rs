@@ -1,8 +1,8 @@
 //! Host instructions for a guest instruction, counted by callgrind: the same at every run, whatever else the machine does.
 
-use crate::bounded;
 use crate::engine::{Engine, ENGINES};
 use crate::programs::Program;
+use common::bounded;
 use std::env;
 use std::fs;
 use std::path::Path;

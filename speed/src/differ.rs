@@ -51,3 +51,44 @@ pub fn difference(got: (&Machine, Answer), wanted: (&Machine, Answer)) -> Option
     .or_else(|| list("the word of page", 4, &one.map, &other.map))
     .or_else(|| list("the byte at real address", 2, &one.memory, &other.memory))
 }
+
+#[cfg(test)]
+mod tests {
+    use super::*;
+
+    const SAID: Answer = Answer {
+        number: 7,
+        place: 0,
+        count: 3,
+    };
+
+    #[test]
+    fn what_is_the_same_is_not_told() {
+        let machine = Machine::new(4_096);
+        assert_eq!(difference((&machine, SAID), (&machine, SAID)), None);
+    }
+
+    #[test]
+    fn every_change_is_seen() {
+        let changes: [fn(&mut Machine); 7] = [
+            |machine| machine.counter = 2,
+            |machine| machine.code = 1,
+            |machine| machine.mask = 1,
+            |machine| machine.registers[15] = 1,
+            |machine| machine.map[511] = 1,
+            |machine| machine.memory[4_095] = 1,
+            |machine| machine.registers.truncate(15),
+        ];
+        let before = Machine::new(4_096);
+        for (i, change) in changes.iter().enumerate() {
+            let mut machine = before.clone();
+            change(&mut machine);
+            assert!(
+                difference((&machine, SAID), (&before, SAID)).is_some(),
+                "change {i}"
+            );
+        }
+        let other = Answer { count: 4, ..SAID };
+        assert!(difference((&before, other), (&before, SAID)).is_some());
+    }
+}

@@ -2,8 +2,9 @@
 
 use crate::clock;
 use crate::machine::{Machine, PAGE};
-use crate::programs::{from_hex, Program, PAGES};
-use crate::talk;
+use crate::programs::{Program, PAGE_FRAMES};
+use common::bytes::{from_hex, put};
+use common::hercules::{run, Ended, OldPsw};
 use std::path::PathBuf;
 use std::time::Duration;
 
@@ -30,11 +31,7 @@ const REGISTERS_AFTER: usize = 0x440;
 const OLD_PSW: usize = 0x28;
 const STORAGE: usize = 0x6000;
 /// The interruption for an operation that there is not.
-const OPERATION: u8 = 1;
-
-fn put(storage: &mut [u8], at: usize, bytes: &[u8]) {
-    storage[at..at + bytes.len()].copy_from_slice(bytes);
-}
+const OPERATION: u16 = 1;
 
 fn storage(machine: &Machine) -> Vec<u8> {
     let mut storage = vec![0; STORAGE];
@@ -44,7 +41,7 @@ fn storage(machine: &Machine) -> Vec<u8> {
     for (i, word) in machine.registers.iter().enumerate() {
         put(&mut storage, REGISTERS + 4 * i, &word.to_be_bytes());
     }
-    for (page, frame) in PAGES {
+    for (page, frame) in PAGE_FRAMES {
         let bytes = &machine.memory[frame * PAGE..][..PAGE];
         put(&mut storage, page * PAGE, bytes);
     }
@@ -53,12 +50,11 @@ fn storage(machine: &Machine) -> Vec<u8> {
 
 /// What differs first between storage at the end and a machine, if anything does.
 fn difference(storage: &[u8], machine: &Machine) -> Option<String> {
-    let psw = &storage[OLD_PSW..OLD_PSW + 8];
-    let end = u32::from_be_bytes([0, psw[5], psw[6], psw[7]]) - 2 * u32::from(psw[4] >> 6);
-    if psw[3] != OPERATION || end != machine.counter {
-        return Some(format!("interruption {} at {end:06X}", psw[3]));
+    let psw = OldPsw::read(std::array::from_fn(|i| storage[OLD_PSW + i]));
+    if psw.number != OPERATION || psw.place != machine.counter {
+        return Some(format!("interruption {} at {:06X}", psw.number, psw.place));
     }
-    if u32::from(psw[4] >> 4 & 3) != machine.code {
+    if u32::from(psw.code) != machine.code {
         return Some("another condition code".to_string());
     }
     for (i, word) in machine.registers.iter().enumerate() {
@@ -69,7 +65,7 @@ fn difference(storage: &[u8], machine: &Machine) -> Option<String> {
     let other = |&&(page, frame): &&(usize, usize)| {
         storage[page * PAGE..][..PAGE] != machine.memory[frame * PAGE..][..PAGE]
     };
-    PAGES
+    PAGE_FRAMES
         .iter()
         .find(other)
         .map(|(page, _)| format!("a byte of page {page} differs"))
@@ -78,22 +74,19 @@ fn difference(storage: &[u8], machine: &Machine) -> Option<String> {
 impl Hercules {
     /// Starts it once, with the shortest run there is.
     pub fn new(folder: PathBuf, program: &Program) -> Result<Hercules, String> {
-        let (_, version) = talk::run(&folder, &storage(&program.machine(1)))?;
+        let Ended { version, .. } = run(&folder, &storage(&program.machine(1)))?;
         Ok(Hercules { folder, version })
     }
 
     pub fn check(&self, program: &Program, rounds: u32, wanted: &Machine) -> Result<(), String> {
-        let (after, _) = talk::run(&self.folder, &storage(&program.machine(rounds)))?;
-        if after.len() != STORAGE {
-            return Err(format!("{} bytes saved", after.len()));
-        }
-        difference(&after, wanted).map_or(Ok(()), Err)
+        let ended = run(&self.folder, &storage(&program.machine(rounds)))?;
+        difference(&ended.storage, wanted).map_or(Ok(()), Err)
     }
 
     /// The processor time of a whole process that does so many rounds.
     pub fn time(&self, program: &Program, rounds: u32) -> Result<Duration, String> {
         let before = clock::children();
-        talk::run(&self.folder, &storage(&program.machine(rounds)))?;
+        run(&self.folder, &storage(&program.machine(rounds)))?;
         Ok(clock::children() - before)
     }
 }

@@ -7,16 +7,10 @@
 //!
 //! where FOLDER is for its files, PROGRAMS are letters, and WITHOUT says why there is no Hercules, or is empty.
 
-// How the witness starts other programs; not all of it is needed here.
-#[allow(dead_code)]
-#[path = "../../witness/src/bounded.rs"]
-mod bounded;
-
 mod cases;
 mod check;
 mod clock;
 mod counts;
-mod dice;
 mod differ;
 mod engine;
 mod hercules;
@@ -25,7 +19,6 @@ mod ordinary;
 mod programs;
 mod proved;
 mod table;
-mod talk;
 mod timing;
 
 use engine::ENGINES;
@@ -129,6 +122,10 @@ fn once(engine: &str, letters: &str, rounds: &str) -> Result<(), Trouble> {
 fn main() -> ExitCode {
     let words: Vec<String> = env::args().skip(1).collect();
     let words: Vec<&str> = words.iter().map(String::as_str).collect();
+    if let Err(wrong) = spectra46::check_library() {
+        eprintln!("speed: {wrong}");
+        return ExitCode::from(2);
+    }
     let done = match words[..] {
         ["table", folder, letters, without, repeats] => times(folder, letters, without, repeats),
         ["check", folder, letters, without] => check(folder, letters, without),

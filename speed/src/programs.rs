@@ -2,6 +2,7 @@
 //! R12 holds the code's address and R11 the number of rounds; a program ends on the zeros behind it, which are no operation.
 
 use crate::machine::{Machine, PAGE};
+use common::bytes::from_hex;
 
 pub struct Program {
     pub name: char,
@@ -29,7 +30,7 @@ enum Data {
 }
 
 /// A page, its frame, and so that the map has something to do, not the frame of its own number.
-pub const PAGES: [(usize, usize); 3] = [(2, 7), (4, 9), (5, 3)];
+pub const PAGE_FRAMES: [(usize, usize); 3] = [(2, 7), (4, 9), (5, 3)];
 const OPEN: u16 = 0x3000;
 const CODE: u32 = 0x2000;
 const MEMORY: usize = 65_536;
@@ -131,15 +132,6 @@ pub const PROGRAMS: [Program; 7] = [
     },
 ];
 
-pub fn from_hex(text: &str) -> Vec<u8> {
-    let digits: Vec<u8> = text
-        .chars()
-        .filter_map(|c| c.to_digit(16))
-        .map(|digit| digit as u8)
-        .collect();
-    digits.chunks(2).map(|two| two[0] << 4 | two[1]).collect()
-}
-
 fn frame(machine: &mut Machine, page: usize) -> &mut [u8] {
     let number = usize::from(machine.map[page] & 0x3F);
     &mut machine.memory[number * PAGE..][..PAGE]
@@ -155,7 +147,7 @@ impl Program {
     /// The machine before so many rounds, at least one.
     pub fn machine(&self, rounds: u32) -> Machine {
         let mut machine = Machine::new(MEMORY);
-        for (page, number) in PAGES {
+        for (page, number) in PAGE_FRAMES {
             machine.map[page] = OPEN | number as u16;
         }
         let code = from_hex(&self.code.concat());

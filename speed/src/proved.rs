@@ -3,12 +3,19 @@
 use crate::machine::{Answer, Machine};
 use spectra46::raw;
 
-fn reply(machine: &Machine) -> [u32; 6] {
-    [0, 0, 0, machine.counter, machine.code, machine.mask]
-}
-
-fn take(machine: &mut Machine, reply: [u32; 6]) -> Answer {
-    let [number, place, count, counter, code, mask] = reply;
+/// Lends the machine to a function of the library.
+fn lend(
+    machine: &mut Machine,
+    call: impl FnOnce(&mut [u8], &mut [u16], &mut [u32], &mut [u32]) -> u32,
+) -> Answer {
+    let mut reply = [0, 0, 0, machine.counter, machine.code, machine.mask];
+    let number = call(
+        &mut machine.memory,
+        &mut machine.map,
+        &mut machine.registers,
+        &mut reply,
+    );
+    let [_, place, count, counter, code, mask] = reply;
     machine.counter = counter;
     machine.code = code;
     machine.mask = mask;
@@ -20,24 +27,11 @@ fn take(machine: &mut Machine, reply: [u32; 6]) -> Answer {
 }
 
 pub fn step(machine: &mut Machine) -> Answer {
-    let mut reply = reply(machine);
-    raw::step(
-        &mut machine.memory,
-        &mut machine.map,
-        &mut machine.registers,
-        &mut reply,
-    );
-    take(machine, reply)
+    lend(machine, raw::step)
 }
 
 pub fn run(machine: &mut Machine, budget: u32) -> Answer {
-    let mut reply = reply(machine);
-    raw::run(
-        &mut machine.memory,
-        &mut machine.map,
-        &mut machine.registers,
-        &mut reply,
-        budget,
-    );
-    take(machine, reply)
+    lend(machine, |memory, map, registers, reply| {
+        raw::run(memory, map, registers, reply, budget)
+    })
 }

@@ -1,6 +1,6 @@
 //! A case: the state before one instruction, and the state after it.
 
-use crate::set::Instruction;
+use common::set::{length, Instruction};
 
 /// Addresses keep 24 bits.
 pub const ADDRESS: u32 = 0x00FF_FFFF;
@@ -50,17 +50,9 @@ pub enum End {
 }
 
 impl Case {
-    /// The instruction's bytes: two, four or six by the top two bits of its operation code.
+    /// The instruction's bytes.
     pub fn text(&self) -> &[u8] {
         let at = (self.counter - self.window_at) as usize;
-        &self.window[at..at + length(self.instruction.code)]
-    }
-}
-
-pub fn length(code: u8) -> usize {
-    match code >> 6 {
-        0 => 2,
-        3 => 6,
-        _ => 4,
+        &self.window[at..at + length(self.instruction.operation)]
     }
 }

@@ -1,8 +1,9 @@
 //! A case in the making: registers, bytes, and addresses that are reached from them.
 
-use crate::case::{length, Case, ADDRESS, WINDOW, ZONE, ZONE_AT};
-use crate::dice::Dice;
-use crate::set::Instruction;
+use crate::case::{Case, ADDRESS, WINDOW, ZONE, ZONE_AT};
+use crate::draw::{self, Draw};
+use common::dice::Dice;
+use common::set::{length, Instruction};
 
 /// From here to the end of storage all is zero in Hercules: a branch to it is caught.
 const HIGH: u32 = 0x30_0000;
@@ -23,12 +24,12 @@ pub struct Draft {
 
 impl Draft {
     pub fn new(instruction: &Instruction, number: usize, window_at: u32) -> Draft {
-        let mut dice = Dice::new(instruction.code, number);
+        let mut dice = draw::dice(instruction.operation, number);
         let mut draft = Draft {
-            regs: std::array::from_fn(|_| dice.word()),
-            window: (0..WINDOW).map(|_| dice.byte()).collect(),
-            zone: (0..ZONE).map(|_| dice.byte()).collect(),
-            size: length(instruction.code) as u32,
+            regs: std::array::from_fn(|_| dice.content_word()),
+            window: (0..WINDOW).map(|_| dice.content_byte()).collect(),
+            zone: (0..ZONE).map(|_| dice.content_byte()).collect(),
+            size: length(instruction.operation) as u32,
             counter: 0,
             crosses: false,
             window_at,
@@ -136,7 +137,7 @@ impl Draft {
     }
 
     pub fn set_address(&mut self, register: usize, at: u32) {
-        let top = self.dice.byte();
+        let top = self.dice.content_byte();
         self.regs[register] = u32::from(top) << 24 | at & ADDRESS;
     }
 

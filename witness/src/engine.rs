@@ -1,8 +1,9 @@
-//! The engine, through the proved program `probe` or another that reads and writes the same (crates/probe/src/case.rt and told.rt
-//! have the forms). Each case is a single step. Its pages lie in three frames of real memory, in any order.
+//! The engine, through the proved program `probe` or another that reads and writes the same (`common::probe` has the forms). Each case
+//! is a single step. Its pages lie in three frames of real memory, in any order.
 
-use crate::bounded;
 use crate::case::{Case, WINDOW, ZONE_AT};
+use common::bounded;
+use common::probe::Call;
 use std::fs;
 use std::path::Path;
 use std::time::Duration;
@@ -62,44 +63,21 @@ pub fn memory(case: &Case, window: &[u8], zone: &[u8]) -> Vec<u8> {
     memory
 }
 
-/// The checksum of memory as `probe` has it.
-pub fn checksum(memory: &[u8]) -> u64 {
-    memory
-        .iter()
-        .fold(1, |sum, byte| sum % (1 << 56) * 251 + u64::from(*byte))
-}
-
 fn push_case(out: &mut Vec<u8>, case: &Case) {
-    out.push(0);
-    out.extend((MEMORY as u32).to_be_bytes());
-    out.extend((PAGES as u16).to_be_bytes());
-    out.push(16);
     let mut map = vec![0; PAGES];
     for (page, frame) in frames(case) {
         map[page as usize] = OPEN | frame as u16;
     }
-    out.extend(map.iter().flat_map(|word| word.to_be_bytes()));
-    out.extend(case.regs.iter().flat_map(|word| word.to_be_bytes()));
-    for number in [case.counter, case.code.into(), case.mask.into(), 1] {
-        out.extend(number.to_be_bytes());
-    }
-    push_memory(out, &memory(case, &case.window, &case.zone));
-}
-
-/// The pieces of memory that are not zero throughout.
-fn push_memory(out: &mut Vec<u8>, memory: &[u8]) {
-    const PIECE: usize = 128;
-    let pieces: Vec<(usize, &[u8])> = memory
-        .chunks(PIECE)
-        .enumerate()
-        .filter(|(_, bytes)| bytes.iter().any(|byte| *byte != 0))
-        .collect();
-    out.extend((pieces.len() as u16).to_be_bytes());
-    for (i, bytes) in pieces {
-        out.extend(((i * PIECE) as u32).to_be_bytes());
-        out.push(bytes.len() as u8);
-        out.extend(bytes);
-    }
+    let call = Call {
+        memory: &memory(case, &case.window, &case.zone),
+        map: &map,
+        registers: &case.regs,
+        counter: case.counter,
+        code: case.code.into(),
+        mask: case.mask.into(),
+        budget: None,
+    };
+    call.push(out);
 }
 
 fn numbers(line: Option<&str>, name: &str) -> Result<Vec<u64>, String> {

@@ -1,7 +1,9 @@
 //! A small program for Hercules, in S/370 basic control mode. It walks a table of records: for each it loads the registers, goes to
 //! the case's code in problem state, catches the interruption that follows, and writes what it finds back into the record.
 
-use crate::case::{After, Case, End, ADDRESS, WINDOW, ZONE};
+use crate::case::{After, Case, End, WINDOW, ZONE};
+use common::bytes::{from_hex, put};
+use common::hercules::OldPsw;
 
 /// A record: sixteen registers, a PSW, how it was caught (1 SVC, 2 program interruption), and the bytes of the zone.
 const RECORD: usize = 336;
@@ -46,36 +48,20 @@ const PROGRAM: [(usize, &str); 9] = [
 ];
 const LAST_PSW: (usize, &str) = (0x458, "0002000000000000");
 
-fn put(core: &mut [u8], at: usize, bytes: &[u8]) {
-    core[at..at + bytes.len()].copy_from_slice(bytes);
-}
-
-fn from_hex(text: &str) -> Vec<u8> {
-    let digits: Vec<u8> = text.bytes().filter(|c| *c != b' ').collect();
-    digits
-        .chunks(2)
-        .map(|two| {
-            two.iter().fold(0, |n, c| {
-                n << 4 | (*c as char).to_digit(16).unwrap_or(0) as u8
-            })
-        })
-        .collect()
-}
-
 /// The storage to load at 0.
-pub fn core(cases: &[Case]) -> Vec<u8> {
+pub fn storage(cases: &[Case]) -> Vec<u8> {
     let end = TABLE + cases.len() * RECORD;
-    let mut core = vec![0; end];
+    let mut storage = vec![0; end];
     for (at, text) in PROGRAM.iter().chain([&LAST_PSW]) {
-        put(&mut core, *at, &from_hex(text));
+        put(&mut storage, *at, &from_hex(text));
     }
-    put(&mut core, 0x444, &(end as u32).to_be_bytes());
-    put(&mut core, 0x448, &(TABLE as u32).to_be_bytes());
+    put(&mut storage, 0x444, &(end as u32).to_be_bytes());
+    put(&mut storage, 0x448, &(TABLE as u32).to_be_bytes());
     for (i, case) in cases.iter().enumerate() {
-        put(&mut core, TABLE + i * RECORD, &record(case));
-        put(&mut core, case.window_at as usize, &case.window);
+        put(&mut storage, TABLE + i * RECORD, &record(case));
+        put(&mut storage, case.window_at as usize, &case.window);
     }
-    core
+    storage
 }
 
 fn record(case: &Case) -> Vec<u8> {
@@ -92,44 +78,76 @@ fn record(case: &Case) -> Vec<u8> {
     out
 }
 
-fn word(bytes: &[u8], at: usize) -> u32 {
-    bytes[at..at + 4]
-        .iter()
-        .fold(0, |n, byte| n << 8 | u32::from(*byte))
+/// So many bytes at a place.
+fn part<const N: usize>(bytes: &[u8], at: usize) -> [u8; N] {
+    std::array::from_fn(|i| bytes[at + i])
 }
 
-/// What storage says of each case afterwards.
-pub fn read(cases: &[Case], core: &[u8]) -> Result<Vec<After>, String> {
-    if core.len() != TABLE + cases.len() * RECORD {
-        return Err(format!("Hercules saved {} bytes", core.len()));
-    }
+/// What the storage that was loaded says of each case afterwards.
+pub fn read(cases: &[Case], storage: &[u8]) -> Vec<After> {
     let read_one = |(i, case): (usize, &Case)| {
         let window_at = case.window_at as usize;
-        let record = &core[TABLE + i * RECORD..][..RECORD];
+        let record = &storage[TABLE + i * RECORD..][..RECORD];
+        let psw = OldPsw::read(part(record, PSW));
         After {
-            end: end(record),
-            code: record[PSW + 4] >> 4 & 3,
-            mask: record[PSW + 4] & 15,
-            regs: std::array::from_fn(|r| word(record, 4 * r)),
-            window: core[window_at..window_at + WINDOW].to_vec(),
+            end: end(record[CAUGHT], &psw),
+            code: psw.code,
+            mask: psw.mask,
+            regs: std::array::from_fn(|r| u32::from_be_bytes(part(record, 4 * r))),
+            window: storage[window_at..window_at + WINDOW].to_vec(),
             zone: record[RECORD_ZONE..RECORD_ZONE + ZONE].to_vec(),
         }
     };
-    Ok(cases.iter().enumerate().map(read_one).collect())
+    cases.iter().enumerate().map(read_one).collect()
 }
 
 /// The counter after the instruction, from the interruption that followed it: by the SVC that it went to, the zeros far off (no
-/// operation), or an odd address (specification). The old PSW's address is past the place by as many halfwords as its length code
-/// says.
-fn end(record: &[u8]) -> End {
-    let number = (word(record, PSW) & 0xFFFF) as u16;
-    let second = word(record, PSW + 4);
-    let address = second & ADDRESS;
-    let place = address.wrapping_sub(2 * (second >> 30)) & ADDRESS;
-    match (record[CAUGHT], number) {
-        (1, _) | (2, 1) => End::At(place),
-        (2, 6) if place % 2 == 1 => End::At(place),
-        (2, 8) => End::Overflow(address),
-        _ => End::Refused(number),
+/// operation), or an odd address (specification).
+fn end(caught: u8, psw: &OldPsw) -> End {
+    match (caught, psw.number) {
+        (1, _) | (2, 1) => End::At(psw.place),
+        (2, 6) if psw.place % 2 == 1 => End::At(psw.place),
+        (2, 8) => End::Overflow(psw.address),
+        _ => End::Refused(psw.number),
+    }
+}
+
+#[cfg(test)]
+mod tests {
+    use super::*;
+    use crate::make;
+    use common::set::SET;
+
+    #[test]
+    fn storage_has_the_cases_whole() {
+        let cases: Vec<Case> = SET
+            .iter()
+            .enumerate()
+            .map(|(i, instruction)| make::make(instruction, i, window_at(i)))
+            .collect();
+        let storage = storage(&cases);
+        for (case, after) in cases.iter().zip(read(&cases, &storage)) {
+            assert_eq!(after.regs, case.regs);
+            assert_eq!((after.code, after.mask), (case.code, case.mask));
+            assert_eq!(after.window, case.window);
+            assert_eq!(after.zone, case.zone);
+        }
+    }
+
+    #[test]
+    fn an_interruption_tells_the_counter() {
+        let psw = |number, place| OldPsw {
+            number,
+            code: 0,
+            mask: 0,
+            address: 0x1002,
+            place,
+        };
+        assert_eq!(end(1, &psw(1, 0x1000)), End::At(0x1000));
+        assert_eq!(end(2, &psw(1, 0x1000)), End::At(0x1000));
+        assert_eq!(end(2, &psw(6, 0x1001)), End::At(0x1001));
+        assert_eq!(end(2, &psw(6, 0x1000)), End::Refused(6));
+        assert_eq!(end(2, &psw(8, 0x1000)), End::Overflow(0x1002));
+        assert_eq!(end(2, &psw(5, 0x1000)), End::Refused(5));
     }
 }

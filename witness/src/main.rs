@@ -3,20 +3,18 @@
 //!
 //! Status: 0 all agree, 1 some differ, 2 something could not be run.
 
-mod bounded;
 mod case;
 mod compare;
-mod dice;
 mod draft;
+mod draw;
 mod engine;
 mod guest;
-mod hercules;
 mod make;
-mod set;
 mod tally;
 
 use case::Case;
-use set::SET;
+use common::hercules;
+use common::set::SET;
 use std::path::Path;
 use std::process::ExitCode;
 use tally::Tally;
@@ -32,9 +30,9 @@ impl Witness<'_> {
     /// One start of Hercules, one of the engine.
     fn hold(&mut self, batch: &[(usize, usize)]) -> Result<(), String> {
         let cases: Vec<Case> = batch.iter().enumerate().map(make_one).collect();
-        let (held, version) = hercules::run(self.folder, &guest::core(&cases))?;
-        self.version = version;
-        let theirs = guest::read(&cases, &held)?;
+        let ended = hercules::run(self.folder, &guest::storage(&cases))?;
+        self.version = ended.version;
+        let theirs = guest::read(&cases, &ended.storage);
         let ours = engine::run(self.engine, self.folder, &cases)?;
         for (((which, _), case), (after, outcome)) in
             batch.iter().zip(&cases).zip(theirs.iter().zip(&ours))
@@ -61,8 +59,8 @@ fn report(witness: &Witness) -> usize {
     println!("instruction  code    cases  differences");
     let mut total = Tally::default();
     for (instruction, tally) in SET.iter().zip(&witness.tallies) {
-        let code = format!("{:02X}", instruction.code);
-        print_line(instruction.name, &code, tally);
+        let operation = format!("{:02X}", instruction.operation);
+        print_line(instruction.name, &operation, tally);
         total.add(*tally);
     }
     print_line("total", &SET.len().to_string(), &total);
@@ -73,9 +71,9 @@ fn report(witness: &Witness) -> usize {
     total.different
 }
 
-fn print_line(name: &str, code: &str, tally: &Tally) {
+fn print_line(name: &str, operation: &str, tally: &Tally) {
     println!(
-        "{name:<11}  {code}    {:>7}  {:>11}",
+        "{name:<11}  {operation}    {:>7}  {:>11}",
         tally.cases, tally.different
     );
 }

@@ -2,7 +2,8 @@
 
 use crate::case::Case;
 use crate::draft::Draft;
-use crate::set::{Instruction, Shape};
+use crate::draw::Draw;
+use common::set::{Instruction, Shape};
 
 pub fn make(instruction: &'static Instruction, number: usize, window_at: u32) -> Case {
     let mut draft = Draft::new(instruction, number, window_at);
@@ -18,7 +19,7 @@ pub fn make(instruction: &'static Instruction, number: usize, window_at: u32) ->
         Shape::Immediate { stores } => (immediate(&mut draft, stores), None),
         Shape::Fields { stores } => (two_fields(&mut draft, stores), None),
     };
-    let mut text = vec![instruction.code];
+    let mut text = vec![instruction.operation];
     text.extend(fields);
     draft.finish(instruction, number, &text, target)
 }
@@ -37,6 +38,10 @@ fn address_bytes(base: usize, displacement: u32) -> [u8; 2] {
 fn four(first: usize, second: usize, base: usize, displacement: u32) -> Vec<u8> {
     let [high, low] = address_bytes(base, displacement);
     vec![pair(first, second), high, low]
+}
+
+fn three_registers(draft: &mut Draft) -> [usize; 3] {
+    std::array::from_fn(|_| draft.dice.register())
 }
 
 fn registers(draft: &mut Draft) -> Vec<u8> {
@@ -64,11 +69,7 @@ fn register_branch(draft: &mut Draft) -> (Vec<u8>, Option<u32>) {
 }
 
 fn storage(draft: &mut Draft, width: u32, stores: bool) -> Vec<u8> {
-    let (r1, index, base) = (
-        draft.dice.register(),
-        draft.dice.register(),
-        draft.dice.register(),
-    );
+    let [r1, index, base] = three_registers(draft);
     let at = draft.place(width, width, stores, base == 0 && index == 0);
     let displacement = draft.reach(at, base, index);
     let operand = draft.dice.near(draft.regs[r1]).to_be_bytes();
@@ -81,11 +82,7 @@ fn storage(draft: &mut Draft, width: u32, stores: bool) -> Vec<u8> {
 }
 
 fn address(draft: &mut Draft) -> Vec<u8> {
-    let (r1, index, base) = (
-        draft.dice.register(),
-        draft.dice.register(),
-        draft.dice.register(),
-    );
+    let [r1, index, base] = three_registers(draft);
     let displacement = draft.dice.displacement();
     if draft.dice.once_in(2) && index != base {
         // Sums about the wrap at 24 bits.
@@ -100,11 +97,7 @@ fn address(draft: &mut Draft) -> Vec<u8> {
 }
 
 fn storage_branch(draft: &mut Draft) -> (Vec<u8>, Option<u32>) {
-    let (r1, index, base) = (
-        draft.dice.register(),
-        draft.dice.register(),
-        draft.dice.register(),
-    );
+    let [r1, index, base] = three_registers(draft);
     count(draft, r1);
     let at = draft.target(base == 0 && index == 0);
     let displacement = draft.reach(at, base, index);
@@ -112,11 +105,7 @@ fn storage_branch(draft: &mut Draft) -> (Vec<u8>, Option<u32>) {
 }
 
 fn multiple(draft: &mut Draft, stores: bool) -> Vec<u8> {
-    let (r1, r3, base) = (
-        draft.dice.register(),
-        draft.dice.register(),
-        draft.dice.register(),
-    );
+    let [r1, r3, base] = three_registers(draft);
     let len = 4 * ((r3 + 16 - r1) % 16 + 1) as u32;
     let at = draft.place(len, 4, stores, base == 0);
     draft.note(at, len);
@@ -125,11 +114,7 @@ fn multiple(draft: &mut Draft, stores: bool) -> Vec<u8> {
 }
 
 fn index_branch(draft: &mut Draft) -> (Vec<u8>, Option<u32>) {
-    let (r1, r3, base) = (
-        draft.dice.register(),
-        draft.dice.register(),
-        draft.dice.register(),
-    );
+    let [r1, r3, base] = three_registers(draft);
     if !draft.dice.once_in(3) {
         // A sum just below, at, or just above the comparand.
         let off = draft.dice.pick(&[0u32, 0, 1, 2, 0xFFFF_FFFF, 0xFFFF_FFFE]);
@@ -143,11 +128,7 @@ fn index_branch(draft: &mut Draft) -> (Vec<u8>, Option<u32>) {
 }
 
 fn shift(draft: &mut Draft) -> Vec<u8> {
-    let (r1, r3, base) = (
-        draft.dice.register(),
-        draft.dice.register(),
-        draft.dice.register(),
-    );
+    let [r1, r3, base] = three_registers(draft);
     let mut displacement = draft.dice.displacement();
     if draft.dice.once_in(2) {
         let held = if base == 0 { 0 } else { draft.regs[base] };
@@ -167,8 +148,8 @@ fn immediate(draft: &mut Draft, stores: bool) -> Vec<u8> {
         1 => !byte,
         2 => byte.wrapping_add(1),
         3 => byte.wrapping_sub(1),
-        4 => byte & draft.dice.byte(),
-        _ => draft.dice.byte(),
+        4 => byte & draft.dice.content_byte(),
+        _ => draft.dice.content_byte(),
     };
     four((given >> 4).into(), (given & 15).into(), base, displacement)
 }

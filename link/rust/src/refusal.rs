@@ -1,57 +1,90 @@
-use std::error::Error;
-use std::fmt;
+//! The numbers 1 to 6, and all that this crate does not know.
+
+use crate::raw;
+use core::error::Error;
+use core::fmt;
 
 /// Why the machine would not do an instruction. `at` is the place that it reports: a virtual address of 24 bits.
+///
+/// More will come: a `match` needs an arm for the rest, and that arm has to take it as a refusal.
 #[derive(Clone, Copy, Debug, PartialEq, Eq, Hash)]
+#[non_exhaustive]
+#[must_use]
 pub enum Refusal {
-    /// Number 1: an address of 2,097,152 or more, or a real address beyond memory; `at` is the first failing byte.
-    Addressing { at: u32 },
-    /// Number 2: an odd program counter, or an operand off its boundary; `at` is that counter or address.
-    Specification { at: u32 },
-    /// Number 3: a page that is not usable; `at` is the first failing byte.
-    PagingQueue { at: u32 },
-    /// Number 4: a page that does not allow the access; `at` is the first failing byte.
-    PagingError { at: u32 },
-    /// Number 5: the operation is not in the set; `at` is the program counter.
-    Operation { at: u32 },
+    /// Number 1: an address of 2,097,152 or more, or a real address beyond memory.
+    Addressing {
+        /// The first failing byte.
+        at: u32,
+    },
+    /// Number 2: an odd program counter, or an operand off its boundary.
+    Specification {
+        /// That counter or address.
+        at: u32,
+    },
+    /// Number 3: a page that is not usable.
+    PagingQueue {
+        /// The first failing byte.
+        at: u32,
+    },
+    /// Number 4: a page that does not allow the access.
+    PagingError {
+        /// The first failing byte.
+        at: u32,
+    },
+    /// Number 5: the operation is not in the set.
+    Operation {
+        /// The program counter.
+        at: u32,
+    },
     /// Number 6: memory of a wrong size, or counter, code, mask or budget out of range.
     OutOfRange,
+    /// A number that this crate does not know, from a later library: a refusal of which nothing more can be said.
+    Unknown {
+        /// The number.
+        number: u32,
+        /// The place that came with it.
+        at: u32,
+    },
 }
 
 impl Refusal {
-    /// The refusal with this number and place; none for 0, 7 and whatever is no number of the machine's.
-    pub(crate) fn of(number: u32, at: u32) -> Option<Refusal> {
+    /// The refusal with this number and place. Whoever asks has seen that the number is not the one that says all went well.
+    pub(crate) fn of(number: u32, at: u32) -> Refusal {
         match number {
-            1 => Some(Refusal::Addressing { at }),
-            2 => Some(Refusal::Specification { at }),
-            3 => Some(Refusal::PagingQueue { at }),
-            4 => Some(Refusal::PagingError { at }),
-            5 => Some(Refusal::Operation { at }),
-            6 => Some(Refusal::OutOfRange),
-            _ => None,
+            raw::ADDRESSING => Refusal::Addressing { at },
+            raw::SPECIFICATION => Refusal::Specification { at },
+            raw::PAGING_QUEUE => Refusal::PagingQueue { at },
+            raw::PAGING_ERROR => Refusal::PagingError { at },
+            raw::OPERATION => Refusal::Operation { at },
+            raw::OUT_OF_RANGE => Refusal::OutOfRange,
+            _ => Refusal::Unknown { number, at },
         }
     }
 
-    /// Its number, 1 to 6.
+    /// Its number.
+    #[must_use]
     pub fn number(self) -> u32 {
         match self {
-            Refusal::Addressing { .. } => 1,
-            Refusal::Specification { .. } => 2,
-            Refusal::PagingQueue { .. } => 3,
-            Refusal::PagingError { .. } => 4,
-            Refusal::Operation { .. } => 5,
-            Refusal::OutOfRange => 6,
+            Refusal::Addressing { .. } => raw::ADDRESSING,
+            Refusal::Specification { .. } => raw::SPECIFICATION,
+            Refusal::PagingQueue { .. } => raw::PAGING_QUEUE,
+            Refusal::PagingError { .. } => raw::PAGING_ERROR,
+            Refusal::Operation { .. } => raw::OPERATION,
+            Refusal::OutOfRange => raw::OUT_OF_RANGE,
+            Refusal::Unknown { number, .. } => number,
         }
     }
 
     /// The place, 0 for [`Refusal::OutOfRange`].
+    #[must_use]
     pub fn place(self) -> u32 {
         match self {
             Refusal::Addressing { at }
             | Refusal::Specification { at }
             | Refusal::PagingQueue { at }
             | Refusal::PagingError { at }
-            | Refusal::Operation { at } => at,
+            | Refusal::Operation { at }
+            | Refusal::Unknown { at, .. } => at,
             Refusal::OutOfRange => 0,
         }
     }
@@ -59,27 +92,53 @@ impl Refusal {
 
 impl fmt::Display for Refusal {
     fn fmt(&self, f: &mut fmt::Formatter<'_>) -> fmt::Result {
-        let at = self.place();
+        let (number, at) = (self.number(), self.place());
+        write!(f, "{number}, ")?;
         match self {
-            Refusal::Addressing { .. } => write!(f, "1, addressing: no memory at {at:06X}"),
+            Refusal::Addressing { .. } => write!(f, "addressing: no memory at {at:06X}"),
             Refusal::Specification { .. } => {
-                write!(f, "2, specification: {at:06X} is off its boundary")
+                write!(f, "specification: {at:06X} is off its boundary")
             }
             Refusal::PagingQueue { .. } => {
-                write!(f, "3, paging queue: the page of {at:06X} is not usable")
+                write!(f, "paging queue: the page of {at:06X} is not usable")
             }
             Refusal::PagingError { .. } => write!(
                 f,
-                "4, paging error: the page of {at:06X} does not allow this access"
+                "paging error: the page of {at:06X} does not allow this access"
             ),
-            Refusal::Operation { .. } => {
-                write!(f, "5, operation: that at {at:06X} is not in the set")
-            }
-            Refusal::OutOfRange => {
-                write!(f, "6: memory, counter, code, mask or budget out of range")
-            }
+            Refusal::Operation { .. } => write!(f, "operation: that at {at:06X} is not in the set"),
+            Refusal::OutOfRange => write!(f, "out of range: memory, counter, code, mask or budget"),
+            Refusal::Unknown { .. } => write!(f, "a number of a later library, at {at:06X}"),
         }
     }
 }
 
 impl Error for Refusal {}
+
+#[cfg(test)]
+mod tests {
+    use super::Refusal;
+
+    #[test]
+    fn every_number_is_kept() {
+        for number in (0..=1_000).chain([u32::MAX]) {
+            assert_eq!(Refusal::of(number, 9).number(), number);
+        }
+    }
+
+    #[test]
+    fn only_1_to_6_are_known() {
+        for number in (0..=1_000).chain([u32::MAX]) {
+            let is_known = !matches!(Refusal::of(number, 9), Refusal::Unknown { .. });
+            assert_eq!(is_known, (1..=6).contains(&number), "{number}");
+        }
+    }
+
+    #[test]
+    fn places_are_kept() {
+        for number in [1, 2, 3, 4, 5, 8, 9, 10] {
+            assert_eq!(Refusal::of(number, 9).place(), 9);
+        }
+        assert_eq!(Refusal::of(6, 0).place(), 0);
+    }
+}

@@ -1,9 +1,14 @@
 //! The machine as a Rust program meets it: each number from 0 to 7, and what a refusal leaves.
-use spectra46::{raw, Machine, Ran, Refusal, Stop};
+use spectra46::{raw, Machine, Refusal, Stop};
+
+/// A machine of so many bytes.
+fn sized(bytes: usize) -> Machine {
+    Machine::new(bytes).expect("the library of this version")
+}
 
 /// Page 10 on frame 3, the counter at its start, and this program there.
 fn machine(program: &[u8]) -> Machine {
-    let mut machine = Machine::new(65_536);
+    let mut machine = sized(65_536);
     machine.pages[10] = 0x3003;
     machine.memory[12_288..12_288 + program.len()].copy_from_slice(program);
     machine.counter = 0x00_A000;
@@ -14,19 +19,26 @@ const LA_1_5: [u8; 4] = [0x41, 0x10, 0x00, 0x05];
 const L_1_AT_2: [u8; 4] = [0x58, 0x10, 0x20, 0x00];
 const ST_1_AT_2: [u8; 4] = [0x50, 0x10, 0x20, 0x00];
 
+/// A run ends so, after so many steps.
+fn runs(machine: &mut Machine, budget: u32, count: u32, stop: Stop) {
+    let ran = machine.run(budget);
+    assert_eq!((ran.count, ran.stop), (count, stop));
+}
+
 /// A refused step leaves the whole machine as it was.
 fn refuses(mut machine: Machine, refusal: Refusal) {
     let before = machine.clone();
     assert_eq!(machine.step(), Err(refusal));
     assert_eq!(machine, before);
-    assert_eq!(
-        machine.run(5),
-        Ran {
-            count: 0,
-            stop: Stop::Refused(refusal)
-        }
-    );
+    runs(&mut machine, 5, 0, Stop::Refused(refusal));
     assert_eq!(machine, before);
+}
+
+/// A change to the machine that step and run have to refuse with 6.
+fn is_out_of_range(change: impl Fn(&mut Machine)) {
+    let mut changed = machine(&LA_1_5);
+    change(&mut changed);
+    refuses(changed, Refusal::OutOfRange);
 }
 
 #[test]
@@ -84,48 +96,46 @@ fn number_5_operation() {
 #[test]
 fn number_6_out_of_range() {
     for bytes in [0, 4_095, 6_144, 262_145, 266_240] {
-        refuses(Machine::new(bytes), Refusal::OutOfRange);
+        refuses(sized(bytes), Refusal::OutOfRange);
     }
-    refuses(
-        Machine {
-            counter: 1 << 24,
-            ..machine(&LA_1_5)
-        },
-        Refusal::OutOfRange,
-    );
-    refuses(
-        Machine {
-            code: 4,
-            ..machine(&LA_1_5)
-        },
-        Refusal::OutOfRange,
-    );
-    refuses(
-        Machine {
-            mask: 16,
-            ..machine(&LA_1_5)
-        },
-        Refusal::OutOfRange,
-    );
+    is_out_of_range(|machine| machine.counter = 1 << 24);
+    is_out_of_range(|machine| machine.code = 4);
+    is_out_of_range(|machine| machine.mask = 16);
 }
 
 #[test]
 fn number_6_budget_out_of_range() {
     let mut machine = machine(&LA_1_5);
     let before = machine.clone();
-    assert_eq!(
-        machine.run(65_536),
-        Ran {
-            count: 0,
-            stop: Stop::Refused(Refusal::OutOfRange)
-        }
-    );
+    let stop = Stop::Refused(Refusal::OutOfRange);
+    runs(&mut machine, 65_536, 0, stop);
     assert_eq!(machine, before);
+}
+
+/// A run of three steps and a step, each with lists of such lengths: 6, and nothing written but a reply that has its length.
+fn refuses_lengths(pages: usize, registers: usize, reply: usize) {
+    let whole = || (vec![7; 4_096], vec![0x3000; pages], vec![9; registers]);
+    let told: &[u32] = match reply {
+        raw::REPLY => &[6, 0, 0, 1, 1, 1],
+        other => &[1; 7][..other],
+    };
+    for is_run in [false, true] {
+        let (mut memory, mut map, mut words) = whole();
+        let mut numbers = vec![1; reply];
+        let number = if is_run {
+            raw::run(&mut memory, &mut map, &mut words, &mut numbers, 3)
+        } else {
+            raw::step(&mut memory, &mut map, &mut words, &mut numbers)
+        };
+        assert_eq!(number, raw::OUT_OF_RANGE);
+        assert_eq!(numbers, told);
+        assert_eq!((memory, map, words), whole());
+    }
 }
 
 #[test]
 fn number_6_lists_of_a_wrong_length() {
-    for (map, regs, size) in [
+    for (pages, registers, reply) in [
         (511, 16, 6),
         (513, 16, 6),
         (512, 15, 6),
@@ -134,58 +144,18 @@ fn number_6_lists_of_a_wrong_length() {
         (512, 16, 7),
         (0, 0, 0),
     ] {
-        let mut memory = vec![7; 4_096];
-        let mut pages = vec![0x3000; map];
-        let mut registers = vec![9; regs];
-        let mut reply = vec![1; size];
-        assert_eq!(
-            raw::run(&mut memory, &mut pages, &mut registers, &mut reply, 3),
-            6
-        );
-        let told: &[u32] = if size == 6 {
-            &[6, 0, 0, 1, 1, 1]
-        } else {
-            &[1; 7][..size]
-        };
-        assert_eq!(reply, told);
-        assert_eq!(
-            (memory, pages, registers),
-            (vec![7; 4_096], vec![0x3000; map], vec![9; regs])
-        );
-        let mut again = vec![1; size];
-        assert_eq!(
-            raw::step(
-                &mut [7; 4_096],
-                &mut vec![0x3000; map],
-                &mut vec![9; regs],
-                &mut again
-            ),
-            6
-        );
-        assert_eq!(again, told);
+        refuses_lengths(pages, registers, reply);
     }
 }
 
 #[test]
 fn number_7_budget_spent() {
     let mut still = machine(&LA_1_5);
-    assert_eq!(
-        still.run(0),
-        Ran {
-            count: 0,
-            stop: Stop::BudgetSpent
-        }
-    );
+    runs(&mut still, 0, 0, Stop::BudgetSpent);
     assert_eq!(still, machine(&LA_1_5));
     let mut loops = machine(&[0x47, 0xF0, 0x20, 0x00]);
     loops.registers[2] = 0x00_A000;
-    assert_eq!(
-        loops.run(65_535),
-        Ran {
-            count: 65_535,
-            stop: Stop::BudgetSpent
-        }
-    );
+    runs(&mut loops, 65_535, 65_535, Stop::BudgetSpent);
     assert_eq!(loops.counter, 0x00_A000);
 }
 
@@ -193,7 +163,7 @@ fn number_7_budget_spent() {
 fn the_count_names_the_state() {
     let mut machine = machine(&[0x41, 0x10, 0x00, 0x05, 0x1E, 0x11]);
     let stop = Stop::Refused(Refusal::Operation { at: 0x00_A006 });
-    assert_eq!(machine.run(65_535), Ran { count: 2, stop });
+    runs(&mut machine, 65_535, 2, stop);
     assert_eq!(
         (machine.registers[1], machine.counter, machine.code),
         (10, 0x00_A006, 1)
@@ -201,19 +171,42 @@ fn the_count_names_the_state() {
 }
 
 #[test]
-fn numbers_and_places() {
-    let all = [
-        Refusal::Addressing { at: 9 },
-        Refusal::Specification { at: 9 },
-        Refusal::PagingQueue { at: 9 },
-        Refusal::PagingError { at: 9 },
-        Refusal::Operation { at: 9 },
-    ];
-    for (number, refusal) in (1..).zip(all) {
-        assert_eq!((refusal.number(), refusal.place()), (number, 9));
+fn memory_has_the_highest_byte_first() {
+    let mut machine = machine(&L_1_AT_2);
+    machine.registers[2] = 0x00_A800;
+    machine.memory[12_288 + 0x800..][..4].copy_from_slice(&[0x12, 0x34, 0x56, 0x78]);
+    assert_eq!(machine.step(), Ok(()));
+    assert_eq!(machine.registers[1], 0x1234_5678);
+}
+
+#[test]
+fn what_a_refusal_says() {
+    for (refusal, said) in [
+        (
+            Refusal::Addressing { at: 0x20_0000 },
+            "1, addressing: no memory at 200000",
+        ),
+        (
+            Refusal::Specification { at: 9 },
+            "2, specification: 000009 is off its boundary",
+        ),
+        (
+            Refusal::PagingQueue { at: 9 },
+            "3, paging queue: the page of 000009 is not usable",
+        ),
+        (
+            Refusal::PagingError { at: 9 },
+            "4, paging error: the page of 000009 does not allow this access",
+        ),
+        (
+            Refusal::Operation { at: 9 },
+            "5, operation: that at 000009 is not in the set",
+        ),
+        (
+            Refusal::OutOfRange,
+            "6, out of range: memory, counter, code, mask or budget",
+        ),
+    ] {
+        assert_eq!(refusal.to_string(), said);
     }
-    assert_eq!(
-        (Refusal::OutOfRange.number(), Refusal::OutOfRange.place()),
-        (6, 0)
-    );
 }

@@ -39,13 +39,21 @@ fn run() -> Result<usize, String> {
             second::many::split(text).map_err(|offset| format!("{name}: bad at byte {offset}"))?,
         );
     }
-    let (sheets, answers, others) = (&lists[0], &lists[1], &lists[2]);
-    if sheets.len() != answers.len() || sheets.len() != others.len() {
+    compare(&lists[0], &lists[1], &lists[2], most)
+}
+
+/// Shows where the answers differ, and tells how many do.
+fn compare(
+    sheets: &[&[u8]],
+    answers: &[&[u8]],
+    others: &[&[u8]],
+    most: usize,
+) -> Result<usize, String> {
+    let lengths = (sheets.len(), answers.len(), others.len());
+    if lengths.0 != lengths.1 || lengths.0 != lengths.2 {
+        let (sheets, answers, others) = lengths;
         return Err(format!(
-            "{} sheets, {} answers, {} others",
-            sheets.len(),
-            answers.len(),
-            others.len()
+            "{sheets} sheets, {answers} answers, {others} others"
         ));
     }
     let mut different = 0;
@@ -56,21 +64,18 @@ fn run() -> Result<usize, String> {
         different += 1;
         if different <= most {
             println!("=== sheet {index} ({} bytes)", sheet.len());
-            let shown = &sheet[..sheet.len().min(2_000)];
-            println!(
-                "{}",
-                shown
-                    .escape_ascii()
-                    .to_string()
-                    .replace("\\n", "\n")
-                    .replace("\\t", "\t")
-            );
-            println!("--- answer");
-            print!("{}", String::from_utf8_lossy(answers[index]));
-            println!("--- other");
-            print!("{}", String::from_utf8_lossy(others[index]));
+            show(sheet, answers[index], others[index]);
         }
     }
     println!("{different} of {} answers differ", sheets.len());
     Ok(different)
+}
+
+fn show(sheet: &[u8], answer: &[u8], other: &[u8]) {
+    let shown = sheet[..sheet.len().min(2_000)].escape_ascii().to_string();
+    println!("{}", shown.replace("\\n", "\n").replace("\\t", "\t"));
+    println!("--- answer");
+    print!("{}", String::from_utf8_lossy(answer));
+    println!("--- other");
+    print!("{}", String::from_utf8_lossy(other));
 }

@@ -21,39 +21,41 @@ fn main() -> ExitCode {
     let (Ok(seed), Ok(count)) = numbers else {
         return usage();
     };
+    let Some(out) = made(flag, seed, count) else {
+        return usage();
+    };
+    let mut stdout = io::stdout().lock();
+    match stdout.write_all(&out).and_then(|()| stdout.flush()) {
+        Ok(()) => ExitCode::SUCCESS,
+        Err(_) => ExitCode::FAILURE,
+    }
+}
+
+/// What is asked for; nothing for a flag that there is not.
+fn made(flag: &str, seed: u64, count: u64) -> Option<Vec<u8>> {
+    let mut generator = Generator::new(seed);
     let mut out = Vec::new();
     match flag {
         "" => {
-            let mut generator = Generator::new(seed);
             for _ in 0..count {
                 many::push(&mut out, &generator.make().text);
             }
         }
         "--labels" => {
-            let mut generator = Generator::new(seed);
             for index in 0..count {
                 out.extend_from_slice(format!("{index}\t{}\n", generator.make().label).as_bytes());
             }
         }
         "--one" => {
-            let mut generator = Generator::new(seed);
             for _ in 0..count {
                 generator.make();
             }
             out = generator.make().text;
         }
         "--census" => out = census::take(seed, count).text().into_bytes(),
-        _ => return usage(),
+        _ => return None,
     }
-    let mut stdout = io::stdout().lock();
-    if stdout
-        .write_all(&out)
-        .and_then(|()| stdout.flush())
-        .is_err()
-    {
-        return ExitCode::FAILURE;
-    }
-    ExitCode::SUCCESS
+    Some(out)
 }
 
 fn usage() -> ExitCode {

@@ -1,10 +1,10 @@
 //! Sweeps over the branches.
 
 use super::BRANCHES;
-use crate::dice::{Dice, EDGE_WORDS};
 use crate::draft::{rr, rs, rx, Draft};
 use crate::operations::{self as op};
 use crate::scene::{fault_word, Scene, OPEN};
+use common::dice::{Dice, EDGE_WORDS};
 
 pub fn conditions(case: u32, dice: &mut Dice) -> Draft {
     let mask = (case % 16) as u8;
@@ -48,39 +48,9 @@ pub fn links(case: u32, dice: &mut Dice) -> Draft {
     let away = scene.code_at(dice.pick(&[0, 2, 100, 0xFFE, 0x1000, 0x1FFE, 0xFF_0000]));
     let r1 = if form == 5 { 0 } else { scene.take() };
     if case % 2 == 0 {
-        match form {
-            0 => {
-                scene.draft.register(r1, dice.word());
-                scene.add(rr(op::BALR, r1, 0));
-            }
-            1 => {
-                scene.draft.register(r1, away | 0xFF00_0000);
-                scene.add(rr(op::BALR, r1, r1));
-            }
-            _ => {
-                let r2 = scene.pointer(dice, away);
-                scene.add(rr(op::BALR, r1, r2));
-            }
-        }
+        add_balr(&mut scene, dice, form, r1, away);
     } else {
-        match form {
-            0 => {
-                let d = dice.below(4_096);
-                scene.add(rx(op::BAL, r1, 0, 0, d));
-            }
-            1 => {
-                scene.draft.register(r1, away);
-                scene.add(rx(op::BAL, r1, 0, r1, 4));
-            }
-            2 => {
-                scene.draft.register(r1, away);
-                scene.add(rx(op::BAL, r1, r1, 0, 0));
-            }
-            _ => {
-                let (x, base, d) = scene.indexed(dice, away);
-                scene.add(rx(op::BAL, r1, x, base, d));
-            }
-        }
+        add_bal(&mut scene, dice, form, r1, away);
     }
     let budget = dice.pick(&[1, 1, 2]);
     if case / 48 == 1 {
@@ -88,6 +58,37 @@ pub fn links(case: u32, dice: &mut Dice) -> Draft {
         scene.offset = if case % 2 == 0 { 0xFFE } else { 0xFFC };
     }
     scene.finish_with(budget)
+}
+
+fn add_balr(scene: &mut Scene, dice: &mut Dice, form: u32, r1: u8, away: u32) {
+    let r2 = match form {
+        0 => {
+            scene.draft.register(r1, dice.word());
+            0
+        }
+        1 => {
+            scene.draft.register(r1, away | 0xFF00_0000);
+            r1
+        }
+        _ => scene.pointer(dice, away),
+    };
+    scene.add(rr(op::BALR, r1, r2));
+}
+
+fn add_bal(scene: &mut Scene, dice: &mut Dice, form: u32, r1: u8, away: u32) {
+    let (x, base, d) = match form {
+        0 => (0, 0, dice.below(4_096)),
+        1 => {
+            scene.draft.register(r1, away);
+            (0, r1, 4)
+        }
+        2 => {
+            scene.draft.register(r1, away);
+            (r1, 0, 0)
+        }
+        _ => scene.indexed(dice, away),
+    };
+    scene.add(rx(op::BAL, r1, x, base, d));
 }
 
 pub fn counts(case: u32, dice: &mut Dice) -> Draft {
@@ -202,6 +203,13 @@ pub fn targets(case: u32, dice: &mut Dice) -> Draft {
     let r1 = scene.take();
     scene.draft.register(r1, 5);
     scene.put(away, &rr(op::LTR, r1, r1));
+    add_taken(&mut scene, dice, code, r1, away);
+    let budget = dice.pick(&[1, 2, 2, 2, 3]);
+    scene.finish_with(budget)
+}
+
+/// A branch that is taken; the register holds 5.
+fn add_taken(scene: &mut Scene, dice: &mut Dice, code: u8, r1: u8, away: u32) {
     match code {
         op::BCR | op::BALR | op::BCTR => {
             let r2 = scene.pointer(dice, away);
@@ -222,6 +230,4 @@ pub fn targets(case: u32, dice: &mut Dice) -> Draft {
             scene.add(rs(code, r1, even, base, d));
         }
     }
-    let budget = dice.pick(&[1, 2, 2, 2, 3]);
-    scene.finish_with(budget)
 }

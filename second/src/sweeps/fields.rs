@@ -1,11 +1,11 @@
 //! Sweeps over long operands: moves, compares, LM and STM.
 
 use super::keep_code;
-use crate::dice::Dice;
 use crate::draft::{rs, rx, si, ss, Draft};
 use crate::machine::{E, G, H, M, W};
 use crate::operations::{self as op};
 use crate::scene::{fault_word, open_word, Scene, FAULTS, OPEN};
+use common::dice::Dice;
 
 /// A move or compare with one field or both in a bad page, at once or from
 /// the second page on.
@@ -16,39 +16,24 @@ pub fn two_fields(case: u32, dice: &mut Dice) -> Draft {
     let straddle = case / (6 * FAULTS) == 1;
     let mut scene = Scene::new(dice);
     // The first field in the data pages, the second in two pages of its own.
-    let other_page = loop {
-        let page = dice.below(510);
-        let apart = |a: u32| page > a + 1 || page + 1 < a;
-        if apart(scene.code_page) && apart(scene.data_page) {
-            break page;
-        }
-    };
-    let other_frames = [scene.data_frames[0] ^ 1, dice.below(16) as u16];
-    for index in 0..2 {
-        let word = open_word(dice, other_frames[index as usize], false);
-        scene.draft.page(other_page + index, word);
-    }
+    let (other_page, other_frames) = two_more_pages(&mut scene, dice);
     let bad = u32::from(straddle);
     if which != 1 {
         let word = fault_word(dice, fault, scene.data_frames[bad as usize]);
         scene.draft.page(scene.data_page + bad, word);
     }
     if which != 0 {
-        let kind = if which == 2 {
-            dice.below(FAULTS)
-        } else {
-            fault
+        let kind = match which {
+            2 => dice.below(FAULTS),
+            _ => fault,
         };
         let word = fault_word(dice, kind, other_frames[bad as usize]);
         scene.draft.page(other_page + bad, word);
     }
     let length = dice.pick(&[3u8, 7, 20, 255]);
-    let from_end = |dice: &mut Dice| {
-        if straddle {
-            4_096 - (1 + dice.below(u32::from(length)))
-        } else {
-            dice.pick(&[0, 500, 2_040, 2_048])
-        }
+    let from_end = |dice: &mut Dice| match straddle {
+        true => 4_095 - dice.below(u32::from(length)),
+        false => dice.pick(&[0, 500, 2_040, 2_048]),
     };
     let first = scene.data_at(from_end(dice));
     let second = other_page * 4_096 + from_end(dice);
@@ -57,11 +42,26 @@ pub fn two_fields(case: u32, dice: &mut Dice) -> Draft {
     if code == op::CLC {
         scene.put(first, &content);
     }
-    let (b1, d1) = scene.based(dice, first);
-    let (b2, d2) = scene.based(dice, second);
-    scene.add(ss(code, length, b1, d1, b2, d2));
+    add_two_fields(&mut scene, dice, (code, length), first, second);
     keep_code(&mut scene, dice);
     scene.finish(dice)
+}
+
+/// Two open pages apart from the code and the data, with their frames.
+fn two_more_pages(scene: &mut Scene, dice: &mut Dice) -> (u32, [u16; 2]) {
+    let first = loop {
+        let page = dice.below(510);
+        let apart = |a: u32| page > a + 1 || page + 1 < a;
+        if apart(scene.code_page) && apart(scene.data_page) {
+            break page;
+        }
+    };
+    let frames = [scene.data_frames[0] ^ 1, dice.below(16) as u16];
+    for index in 0..2 {
+        let word = open_word(dice, frames[index as usize], false);
+        scene.draft.page(first + index, word);
+    }
+    (first, frames)
 }
 
 /// LM and STM over the end of a page.
@@ -119,51 +119,32 @@ pub fn moves(case: u32, dice: &mut Dice) -> Draft {
     let code = [op::MVC, op::CLC][(case % 2) as usize];
     let length = [0u8, 1, 2, 3, 15, 100, 254, 255][(case / 2 % 8) as usize];
     let apart = [0i64, 1, -1, 2, -2, 3, -3, 255, -255, 256, 1_000][(case / 16 % 11) as usize];
-    let layout = case / 176;
     let mut scene = Scene::new(dice);
-    let (first, second) = match layout {
+    let (first, second) = match case / 176 {
         // In one page, or over its end.
         0 => {
-            let near = dice.pick(&[1_100, 2_040, 2_100]);
-            let first = i64::from(scene.data_at(near));
-            (first, first - apart)
+            let first = scene.data_at(dice.pick(&[1_100, 2_040, 2_100]));
+            (first, first)
         }
         1 => {
-            let near = 4_096 - dice.below(u32::from(length) + 1);
-            let first = i64::from(scene.data_at(near));
-            (first, first - apart)
+            let first = scene.data_at(4_096 - dice.below(u32::from(length) + 1));
+            (first, first)
         }
         // Through two pages that share a frame.
         _ => {
-            let alias = if scene.code_page > 250 { 100 } else { 400 };
-            let alias = if alias == scene.data_page || alias == scene.data_page + 1 {
-                alias + 3
-            } else {
-                alias
-            };
-            let frame = scene.data_frames[0];
-            let word = open_word(dice, frame, false);
-            scene.draft.page(alias, word);
+            let alias = alias_of_data(&mut scene, dice);
             let near = dice.pick(&[1_100, 2_040, 2_100]);
-            let first = i64::from(scene.data_at(near));
-            (first, i64::from(alias) * 4_096 + i64::from(near) - apart)
+            (scene.data_at(near), alias * 4_096 + near)
         }
     };
-    let first = first as u32;
-    let second = second as u32;
+    let second = (i64::from(second) - apart) as u32;
     let content: Vec<u8> = (0..24).map(|_| dice.byte()).collect();
     scene.put(second, &content);
     if code == op::CLC {
-        let mut same = content.clone();
-        let at = dice.below(24) as usize;
-        if dice.chance(1, 2) {
-            same[at] ^= dice.edge_byte();
-        }
+        let same = nearly_same(dice, content);
         scene.put(first, &same);
     }
-    let (b1, d1) = scene.based(dice, first);
-    let (b2, d2) = scene.based(dice, second);
-    scene.add(ss(code, length, b1, d1, b2, d2));
+    add_two_fields(&mut scene, dice, (code, length), first, second);
     if code == op::MVC {
         let start = (first & !3) - 4;
         scene.fold(dice, start, u32::from(length) / 4 + 4);
@@ -171,6 +152,26 @@ pub fn moves(case: u32, dice: &mut Dice) -> Draft {
         keep_code(&mut scene, dice);
     }
     scene.finish(dice)
+}
+
+/// The content, or half of the time perhaps another byte in it.
+fn nearly_same(dice: &mut Dice, mut content: Vec<u8>) -> Vec<u8> {
+    let at = dice.below(content.len() as u32) as usize;
+    if dice.chance(1, 2) {
+        content[at] ^= dice.edge_byte();
+    }
+    content
+}
+
+/// Another page on the frame of the first data page.
+fn alias_of_data(scene: &mut Scene, dice: &mut Dice) -> u32 {
+    let mut alias = if scene.code_page > 250 { 100 } else { 400 };
+    if alias == scene.data_page || alias == scene.data_page + 1 {
+        alias += 3;
+    }
+    let word = open_word(dice, scene.data_frames[0], false);
+    scene.draft.page(alias, word);
+    alias
 }
 
 /// Two pages on one frame: stores through one seen through the other.
@@ -200,7 +201,13 @@ pub fn shared_frames(case: u32, dice: &mut Dice) -> Draft {
     if case % 4 == 2 {
         scene.put(b, &content[8..]);
     }
-    match case / 4 % 6 {
+    add_through_both(&mut scene, dice, case / 4 % 6, a, b);
+    scene.finish(dice)
+}
+
+/// Instructions on two places that may share bytes.
+fn add_through_both(scene: &mut Scene, dice: &mut Dice, kind: u32, a: u32, b: u32) {
+    match kind {
         0 => {
             let r = scene.valued(dice);
             let (x, base, d) = scene.indexed(dice, a);
@@ -217,22 +224,16 @@ pub fn shared_frames(case: u32, dice: &mut Dice) -> Draft {
             scene.add(rx(op::L, r, x, base, d));
         }
         2 => {
-            let (b1, d1) = scene.based(dice, a + 1);
-            let (b2, d2) = scene.based(dice, b);
-            scene.add(ss(op::MVC, dice.pick(&[3, 7, 30]), b1, d1, b2, d2));
+            add_fields_of_some_length(scene, dice, op::MVC, a + 1, b);
             scene.fold(dice, a, 4);
         }
         3 => {
-            let (b1, d1) = scene.based(dice, a);
-            let (b2, d2) = scene.based(dice, b + 1);
-            scene.add(ss(op::MVC, dice.pick(&[3, 7, 30]), b1, d1, b2, d2));
+            add_fields_of_some_length(scene, dice, op::MVC, a, b + 1);
             scene.fold(dice, a, 4);
         }
         4 => {
-            let (b1, d1) = scene.based(dice, a);
-            let (b2, d2) = scene.based(dice, b);
-            scene.add(ss(op::CLC, dice.pick(&[3, 7, 30]), b1, d1, b2, d2));
-            keep_code(&mut scene, dice);
+            add_fields_of_some_length(scene, dice, op::CLC, a, b);
+            keep_code(scene, dice);
         }
         _ => {
             let (base, d) = scene.based(dice, a);
@@ -241,5 +242,28 @@ pub fn shared_frames(case: u32, dice: &mut Dice) -> Draft {
             scene.add(rs(op::LM, 4, 7, base, d));
         }
     }
-    scene.finish(dice)
+}
+
+fn add_fields_of_some_length(
+    scene: &mut Scene,
+    dice: &mut Dice,
+    code: u8,
+    first: u32,
+    second: u32,
+) {
+    let (b1, d1) = scene.based(dice, first);
+    let (b2, d2) = scene.based(dice, second);
+    scene.add(ss(code, dice.pick(&[3, 7, 30]), b1, d1, b2, d2));
+}
+
+fn add_two_fields(
+    scene: &mut Scene,
+    dice: &mut Dice,
+    (code, length): (u8, u8),
+    first: u32,
+    second: u32,
+) {
+    let (b1, d1) = scene.based(dice, first);
+    let (b2, d2) = scene.based(dice, second);
+    scene.add(ss(code, length, b1, d1, b2, d2));
 }

@@ -1,11 +1,11 @@
 //! Sweeps over page words, addresses and fetches.
 
 use super::{keep_code, MEMORY_OPS};
-use crate::dice::Dice;
 use crate::draft::{rr, rx, si, ss, Draft};
 use crate::machine::{H, M};
 use crate::operations::{self as op, OPERATIONS};
 use crate::scene::{fault_word, open_word, Scene, ADDRESS_BITS, FAULTS, OPEN};
+use common::dice::Dice;
 
 /// Each operation with a memory operand against each kind of page word.
 pub fn operand_words(case: u32, dice: &mut Dice) -> Draft {
@@ -93,33 +93,26 @@ pub fn address_ends(case: u32, dice: &mut Dice) -> Draft {
 /// Every setting of the seven flags for a fetch, a load and a store, low and
 /// high in the page; now and then an X bit with them.
 pub fn word_flags(case: u32, dice: &mut Dice) -> Draft {
-    let flags = ((case % 128) << 9) as u16;
     let access = case / 128 % 3;
     let high = case / 384 == 1;
     let mut scene = Scene::new(dice);
-    let x = if dice.chance(1, 5) {
-        (dice.below(7) as u16 + 1) << 6
-    } else {
-        0
-    };
+    let flags = ((case % 128) << 9) as u16 | perhaps_x(dice);
     let displacement = if high {
         dice.pick(&[2_048, 2_050, 4_094])
     } else {
         dice.pick(&[0, 2, 2_046])
     };
     if access == 0 {
-        scene
-            .draft
-            .page(scene.code_page, flags | x | scene.code_frames[0]);
+        let word = flags | scene.code_frames[0];
+        scene.draft.page(scene.code_page, word);
         scene.offset = displacement;
         let r1 = scene.valued(dice);
         let r2 = scene.valued(dice);
         scene.add(rr(op::LTR, r1, r2));
         return scene.finish(dice);
     }
-    scene
-        .draft
-        .page(scene.data_page, flags | x | scene.data_frames[0]);
+    let word = flags | scene.data_frames[0];
+    scene.draft.page(scene.data_page, word);
     let target = scene.data_at(displacement);
     // The byte where it should be, and others in the other half.
     let real = u32::from(scene.data_frames[0]) * 4_096 + displacement;
@@ -127,28 +120,46 @@ pub fn word_flags(case: u32, dice: &mut Dice) -> Draft {
     scene.put(target, &[0x33, 0x44]);
     let (base, d) = scene.based(dice, target);
     if access == 1 {
-        let r = scene.take();
-        let instruction = match dice.below(4) {
-            0 => rx(op::IC, r, 0, base, d),
-            1 => rx(op::LH, r, 0, base, d),
-            2 => si(op::CLI, 0x33, base, d),
-            _ => si(op::TM, 0x12, base, d),
-        };
-        scene.add(instruction);
+        add_load(&mut scene, dice, base, d);
     } else {
-        let r = scene.valued(dice);
-        let instruction = match dice.below(5) {
-            0 => rx(op::STC, r, 0, base, d),
-            1 => rx(op::STH, r, 0, base, d),
-            2 => si(op::MVI, 0x55, base, d),
-            3 => si(op::XI, 0xFF, base, d),
-            _ => ss(op::MVC, 1, base, d, base, d),
-        };
-        scene.add(instruction);
-        let r = scene.take();
-        scene.add(rx(op::LH, r, 0, base, d));
+        add_store(&mut scene, dice, base, d);
     }
     scene.finish(dice)
+}
+
+/// X bits, once in five times.
+fn perhaps_x(dice: &mut Dice) -> u16 {
+    if dice.chance(1, 5) {
+        (dice.below(7) as u16 + 1) << 6
+    } else {
+        0
+    }
+}
+
+fn add_load(scene: &mut Scene, dice: &mut Dice, base: u8, d: u32) {
+    let r = scene.take();
+    let instruction = match dice.below(4) {
+        0 => rx(op::IC, r, 0, base, d),
+        1 => rx(op::LH, r, 0, base, d),
+        2 => si(op::CLI, 0x33, base, d),
+        _ => si(op::TM, 0x12, base, d),
+    };
+    scene.add(instruction);
+}
+
+/// A store, and a load of what it stored.
+fn add_store(scene: &mut Scene, dice: &mut Dice, base: u8, d: u32) {
+    let r = scene.valued(dice);
+    let instruction = match dice.below(5) {
+        0 => rx(op::STC, r, 0, base, d),
+        1 => rx(op::STH, r, 0, base, d),
+        2 => si(op::MVI, 0x55, base, d),
+        3 => si(op::XI, 0xFF, base, d),
+        _ => ss(op::MVC, 1, base, d, base, d),
+    };
+    scene.add(instruction);
+    let r = scene.take();
+    scene.add(rx(op::LH, r, 0, base, d));
 }
 
 /// Every page number, with pages of like numbers beside it; present, or
@@ -158,7 +169,44 @@ pub fn page_numbers(case: u32, dice: &mut Dice) -> Draft {
     let present = case < 512;
     let fetch = dice.chance(1, 2);
     let mut scene = Scene::new(dice);
-    let likes = [
+    let likes = like_numbers(page);
+    let [frame, like_frame] = scene.data_frames;
+    let start = |frame: u16| u32::from(frame) * 4_096;
+    scene.draft.put(start(frame), &[0x41, 0x50, 0x01, 0x11]);
+    scene
+        .draft
+        .put(start(like_frame), &[0x41, 0x60, 0x02, 0x22]);
+    scene.draft.pages.clear();
+    if !fetch {
+        // From a code page that is none of these.
+        let is_free = |code: &u32| *code != page && !likes.contains(code);
+        scene.code_page = (5..512).find(is_free).unwrap_or(5);
+        let word = OPEN | scene.code_frames[0];
+        scene.draft.page(scene.code_page, word);
+    }
+    for like in likes {
+        if like != page && dice.chance(2, 3) {
+            scene.draft.page(like, OPEN | like_frame);
+        }
+    }
+    if present {
+        scene.draft.page(page, OPEN | frame);
+    }
+    if fetch {
+        scene.code_page = page;
+        scene.offset = 0;
+        // The code already lies in its frame.
+        return scene.finish_with(1);
+    }
+    let (x, base, d) = scene.indexed(dice, page * 4_096);
+    let r = scene.take();
+    scene.add(rx(op::L, r, x, base, d));
+    scene.finish(dice)
+}
+
+/// Page numbers that a slip might take for this one.
+fn like_numbers(page: u32) -> [u32; 9] {
+    [
         page % 64,
         page ^ 64,
         page ^ 128,
@@ -168,50 +216,7 @@ pub fn page_numbers(case: u32, dice: &mut Dice) -> Draft {
         page / 2,
         (page * 2) % 512,
         page.reverse_bits() >> 23,
-    ];
-    let frame = scene.data_frames[0];
-    let like_frame = scene.data_frames[1];
-    scene
-        .draft
-        .put(u32::from(frame) * 4_096, &[0x41, 0x50, 0x01, 0x11]);
-    scene
-        .draft
-        .put(u32::from(like_frame) * 4_096, &[0x41, 0x60, 0x02, 0x22]);
-    if fetch {
-        scene.draft.pages.clear();
-        for like in likes {
-            if like != page && dice.chance(2, 3) {
-                scene.draft.page(like, OPEN | like_frame);
-            }
-        }
-        if present {
-            scene.draft.page(page, OPEN | frame);
-        }
-        scene.code_page = page;
-        scene.offset = 0;
-        // The code already lies in its frame.
-        return scene.finish_with(1);
-    }
-    // From a code page that is none of these.
-    let mut code_page = 5;
-    while code_page == page || likes.contains(&code_page) {
-        code_page += 1;
-    }
-    scene.draft.pages.clear();
-    scene.code_page = code_page;
-    scene.draft.page(code_page, OPEN | scene.code_frames[0]);
-    for like in likes {
-        if like != page && dice.chance(2, 3) {
-            scene.draft.page(like, OPEN | like_frame);
-        }
-    }
-    if present {
-        scene.draft.page(page, OPEN | frame);
-    }
-    let (x, base, d) = scene.indexed(dice, page * 4_096);
-    let r = scene.take();
-    scene.add(rx(op::L, r, x, base, d));
-    scene.finish(dice)
+    ]
 }
 
 /// Every frame number for a fetch, a load and a store.
@@ -254,47 +259,59 @@ pub fn frames(case: u32, dice: &mut Dice) -> Draft {
 /// Each operation where its own fetch is in danger.
 pub fn fetches(case: u32, dice: &mut Dice) -> Draft {
     let row = OPERATIONS[(case % 50) as usize];
-    let length = op::length(row.code);
     let mut scene = Scene::new(dice);
+    put_in_danger(&mut scene, dice, case / 50, op::length(row.code));
+    let instruction = scene.good(dice, row.code);
+    scene.add(instruction);
+    scene.finish(dice)
+}
+
+/// Moves the code to the end of virtual memory, or of all addresses.
+fn put_at_an_end(scene: &mut Scene, dice: &mut Dice, of_all: bool) {
+    let open = OPEN | scene.code_frames[0];
+    if of_all {
+        scene.draft.page(0, open);
+        scene.draft.page(511, open);
+        scene.code_page = 4_095;
+        scene.offset = 4_096 - dice.pick(&[2, 4, 6, 1]);
+    } else {
+        scene.draft.page(511, open);
+        scene.code_page = 511;
+        scene.offset = 4_096 - dice.pick(&[2, 4, 6]);
+    }
+}
+
+/// Gives the code's page a word that fails a test, or nearly.
+fn spoil_code_page(scene: &mut Scene, dice: &mut Dice) {
+    let fault = dice.below(FAULTS);
+    let word = fault_word(dice, fault, scene.code_frames[0]);
+    scene.draft.page(scene.code_page, word);
+}
+
+/// Moves the code, of so many bytes, to where its fetch may be refused.
+fn put_in_danger(scene: &mut Scene, dice: &mut Dice, kind: u32, length: u32) {
     let page = scene.code_page;
-    match case / 50 {
+    let open = OPEN | scene.code_frames[0];
+    match kind {
         // The first halfword's page.
         0..=2 => {
-            let fault = dice.below(FAULTS);
-            let word = fault_word(dice, fault, scene.code_frames[0]);
-            scene.draft.page(page, word);
+            spoil_code_page(scene, dice);
             scene.offset = dice.pick(&[0, 2_046, 2_048, 2_050]);
         }
         // The end of a half page.
         3 | 4 => {
             let half = dice.pick(&[0, H]);
-            scene
-                .draft
-                .page(page, OPEN | M | half | scene.code_frames[0]);
+            scene.draft.page(page, open | M | half);
             scene.offset = 2_048 - dice.pick(&[2, 4, 6]);
         }
         // An odd counter.
         5 => {
             scene.offset = 1 + 2 * dice.below(200);
             if dice.chance(1, 2) {
-                let fault = dice.below(FAULTS);
-                let word = fault_word(dice, fault, scene.code_frames[0]);
-                scene.draft.page(page, word);
+                spoil_code_page(scene, dice);
             }
         }
-        // The end of virtual memory.
-        6 | 7 => {
-            scene.code_page = 511;
-            scene.draft.page(511, OPEN | scene.code_frames[0]);
-            scene.offset = 4_096 - dice.pick(&[2, 4, 6]);
-        }
-        // The end of all addresses.
-        8 => {
-            scene.draft.page(0, OPEN | scene.code_frames[0]);
-            scene.draft.page(511, OPEN | scene.code_frames[0]);
-            scene.code_page = 4_095;
-            scene.offset = 4_096 - dice.pick(&[2, 4, 6, 1]);
-        }
+        6..=8 => put_at_an_end(scene, dice, kind == 8),
         // Across into a page that is open.
         _ => {
             let word = open_word(dice, scene.code_frames[1], false);
@@ -302,9 +319,6 @@ pub fn fetches(case: u32, dice: &mut Dice) -> Draft {
             scene.offset = 4_096 - length + 2 * dice.below(length / 2 + 1);
         }
     }
-    let instruction = scene.good(dice, row.code);
-    scene.add(instruction);
-    scene.finish(dice)
 }
 
 /// Each instruction of four or six bytes over the end of a page, against

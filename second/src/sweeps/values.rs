@@ -1,10 +1,10 @@
 //! Sweeps over values: registers, words, bytes, shifts and address sums.
 
 use super::{keep_code, BYTE_OPS, REGISTER_OPS, WORD_OPS};
-use crate::dice::{Dice, EDGE_BYTES, EDGE_WORDS};
 use crate::draft::{rr, rs, rx, si, ss, Draft};
 use crate::operations::{self as op, Form, OPERATIONS};
 use crate::scene::{open_word, Scene, OPEN};
+use common::dice::{Dice, EDGE_BYTES, EDGE_WORDS};
 
 pub fn register_values(case: u32, dice: &mut Dice) -> Draft {
     let code = REGISTER_OPS[(case / 64) as usize];
@@ -157,23 +157,25 @@ pub fn shifts(case: u32, dice: &mut Dice) -> Draft {
     scene.finish(dice)
 }
 
+/// Words about the wrap at 24 bits.
+const SUMMANDS: [u32; 8] = [
+    0,
+    1,
+    0x00FF_FFFF,
+    0x0100_0000,
+    0x7FFF_FFFF,
+    0x80FF_F000,
+    0xFFFF_FFFF,
+    0xFF00_0001,
+];
+
 /// Sums of base, index and displacement, shown by LA and used by IC.
 pub fn address_sums(case: u32, dice: &mut Dice) -> Draft {
     let mut scene = Scene::new(dice);
-    let edges = [
-        0,
-        1,
-        0x00FF_FFFF,
-        0x0100_0000,
-        0x7FFF_FFFF,
-        0x80FF_F000,
-        0xFFFF_FFFF,
-        0xFF00_0001,
-    ];
     let first = scene.take();
     let second = scene.take();
-    let mut a = edges[(case % 8) as usize];
-    let b = edges[(case / 8 % 8) as usize];
+    let mut a = SUMMANDS[(case % 8) as usize];
+    let b = SUMMANDS[(case / 8 % 8) as usize];
     let d = dice.pick(&[0, 1, 0xFFE, 0xFFF]);
     let reach = case >= 128;
     if reach {
@@ -207,10 +209,8 @@ pub fn address_sums(case: u32, dice: &mut Dice) -> Draft {
     scene.finish(dice)
 }
 
-/// Base and displacement whose sum goes past 24 bits and comes out at the
-/// low end, for each instruction that has them.
-pub fn sums_past_the_end(case: u32, dice: &mut Dice) -> Draft {
-    let row = OPERATIONS[(17 + case % 33) as usize];
+/// A scene with its data in pages 0 and 1.
+fn low_scene(dice: &mut Dice) -> Scene {
     let mut scene = Scene::new(dice);
     if scene.code_page <= 1 {
         scene.draft.pages.clear();
@@ -222,6 +222,14 @@ pub fn sums_past_the_end(case: u32, dice: &mut Dice) -> Draft {
         let word = open_word(dice, scene.data_frames[index as usize], true);
         scene.draft.page(index, word);
     }
+    scene
+}
+
+/// Base and displacement whose sum goes past 24 bits and comes out at the
+/// low end, for each instruction that has them.
+pub fn sums_past_the_end(case: u32, dice: &mut Dice) -> Draft {
+    let row = OPERATIONS[(17 + case % 33) as usize];
+    let mut scene = low_scene(dice);
     let target = 4 * dice.below(20);
     let other = dice.below(80);
     let content: Vec<u8> = (0..32).map(|_| dice.byte()).collect();

@@ -1,4 +1,4 @@
-//! The fifty instructions of the base set, and what kind of case each needs.
+//! The fifty instructions of the base set, and what kind of case each needs. (The second program has a table of its own.)
 
 /// What an instruction does with its fields, as far as a case must know.
 #[derive(Clone, Copy, Debug, PartialEq, Eq)]
@@ -25,15 +25,20 @@ pub enum Shape {
     Fields { stores: bool },
 }
 
-#[derive(Debug)]
+#[derive(Clone, Copy, Debug)]
 pub struct Instruction {
     pub name: &'static str,
-    pub code: u8,
+    /// The operation code.
+    pub operation: u8,
     pub shape: Shape,
 }
 
-const fn row(name: &'static str, code: u8, shape: Shape) -> Instruction {
-    Instruction { name, code, shape }
+const fn row(name: &'static str, operation: u8, shape: Shape) -> Instruction {
+    Instruction {
+        name,
+        operation,
+        shape,
+    }
 }
 
 const fn load(width: u32) -> Shape {
@@ -103,16 +108,37 @@ pub const SET: [Instruction; 50] = [
     row("BXLE", 0x87, Shape::IndexBranch),
 ];
 
+/// An instruction's bytes, by the top two bits of its operation code.
+pub fn length(operation: u8) -> usize {
+    match operation >> 6 {
+        0 => 2,
+        3 => 6,
+        _ => 4,
+    }
+}
+
 #[cfg(test)]
 mod tests {
-    use super::SET;
+    use super::{length, Shape, SET};
 
     #[test]
-    fn no_name_or_code_stands_twice() {
+    fn no_name_or_operation_code_stands_twice() {
         for (i, one) in SET.iter().enumerate() {
             for other in &SET[i + 1..] {
-                assert!(one.name != other.name && one.code != other.code);
+                assert!(one.name != other.name && one.operation != other.operation);
             }
+        }
+    }
+
+    #[test]
+    fn lengths_fit_the_shapes() {
+        for one in &SET {
+            let wanted = match one.shape {
+                Shape::Registers | Shape::RegisterBranch => 2,
+                Shape::Fields { .. } => 6,
+                _ => 4,
+            };
+            assert_eq!(length(one.operation), wanted, "{}", one.name);
         }
     }
 }

@@ -110,8 +110,15 @@ impl Talk {
     }
 }
 
-/// Loads storage at location 0, restarts, and waits for the disabled wait at the end; answers what storage holds then, and the version.
-pub fn run(folder: &Path, storage: &[u8]) -> Result<(Vec<u8>, String), String> {
+/// What Hercules left.
+pub struct Ended {
+    pub storage: Vec<u8>,
+    /// Hercules' version, as it says.
+    pub version: String,
+}
+
+/// Loads storage at location 0, restarts, and waits for the disabled wait at the end; answers what as much storage holds then.
+pub fn run(folder: &Path, storage: &[u8]) -> Result<Ended, String> {
     let (before, after) = (folder.join("core"), folder.join("core-after"));
     // Hercules saves to no file that is there already.
     let _ = fs::remove_file(&after);
@@ -125,5 +132,58 @@ pub fn run(folder: &Path, storage: &[u8]) -> Result<(Vec<u8>, String), String> {
     talk.say("quit")?;
     talk.process.wait(PATIENCE)?;
     let held = fs::read(&after).map_err(|error| error.to_string())?;
-    Ok((held, talk.version))
+    if held.len() != storage.len() {
+        return Err(format!("Hercules saved {} bytes", held.len()));
+    }
+    Ok(Ended {
+        storage: held,
+        version: talk.version,
+    })
+}
+
+/// Addresses keep 24 bits.
+const ADDRESS: u32 = 0x00FF_FFFF;
+
+/// What the old PSW of an interruption tells (S/370, basic control mode).
+#[derive(Debug, PartialEq, Eq)]
+pub struct OldPsw {
+    /// The interruption's number.
+    pub number: u16,
+    pub code: u8,
+    pub mask: u8,
+    /// Where the counter stood.
+    pub address: u32,
+    /// Where the instruction began: before `address`, by as many halfwords as the PSW's length code says.
+    pub place: u32,
+}
+
+impl OldPsw {
+    pub fn read(bytes: [u8; 8]) -> OldPsw {
+        let [_, _, high, low, scalars, a, b, c] = bytes;
+        let address = u32::from_be_bytes([0, a, b, c]);
+        OldPsw {
+            number: u16::from_be_bytes([high, low]),
+            code: scalars >> 4 & 3,
+            mask: scalars & 15,
+            address,
+            place: address.wrapping_sub(2 * u32::from(scalars >> 6)) & ADDRESS,
+        }
+    }
+}
+
+#[cfg(test)]
+mod tests {
+    use super::OldPsw;
+
+    #[test]
+    fn an_old_psw() {
+        let wanted = OldPsw {
+            number: 6,
+            code: 1,
+            mask: 9,
+            address: 2,
+            place: 0xFF_FFFE,
+        };
+        assert_eq!(OldPsw::read([0, 1, 0, 6, 0x99, 0, 0, 2]), wanted);
+    }
 }

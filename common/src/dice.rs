@@ -1,22 +1,37 @@
-//! A small generator of numbers that is the same on every machine
-//! (splitmix64), with a few ways to choose.
+//! A small generator of numbers that is the same on every machine (splitmix64), with a few ways to choose.
 
 pub struct Dice {
     state: u64,
 }
+
+/// Words about which signs and carries turn.
+pub const EDGE_WORDS: [u32; 8] = [
+    0x0000_0000,
+    0x0000_0001,
+    0x0000_0002,
+    0x7FFF_FFFF,
+    0x8000_0000,
+    0x8000_0001,
+    0xFFFF_FFFE,
+    0xFFFF_FFFF,
+];
+
+/// Bytes at the edges, and two with every other bit.
+pub const EDGE_BYTES: [u8; 7] = [0x00, 0x01, 0x55, 0x7F, 0x80, 0xAA, 0xFF];
 
 impl Dice {
     pub fn new(seed: u64) -> Dice {
         Dice { state: seed }
     }
 
-    /// Dice for one sheet of one seed.
-    pub fn for_sheet(seed: u64, index: u64) -> Dice {
+    /// Dice for one of the many things that are made from a seed.
+    pub fn for_one(seed: u64, index: u64) -> Dice {
         let mut first = Dice::new(seed);
         let mut second = Dice::new(first.roll() ^ index.wrapping_mul(0xD134_2543_DE82_EF95));
         Dice::new(second.roll())
     }
 
+    /// Any number.
     pub fn roll(&mut self) -> u64 {
         self.state = self.state.wrapping_add(0x9E37_79B9_7F4A_7C15);
         let mut mixed = self.state;
@@ -35,14 +50,21 @@ impl Dice {
         self.below(out_of) < times
     }
 
+    /// True once in `times`.
+    pub fn once_in(&mut self, times: u32) -> bool {
+        self.chance(1, times)
+    }
+
     pub fn pick<T: Copy>(&mut self, choices: &[T]) -> T {
         choices[self.below(choices.len() as u32) as usize]
     }
 
+    /// Any word.
     pub fn word(&mut self) -> u32 {
         self.roll() as u32
     }
 
+    /// Any byte.
     pub fn byte(&mut self) -> u8 {
         self.roll() as u8
     }
@@ -65,13 +87,6 @@ impl Dice {
         }
     }
 
-    /// The numbers 1 to 15 in some order.
-    pub fn register_order(&mut self) -> Vec<u8> {
-        let mut order: Vec<u8> = (1..16).collect();
-        self.shuffle(&mut order);
-        order
-    }
-
     pub fn shuffle<T>(&mut self, list: &mut [T]) {
         let mut left = list.len();
         while left > 1 {
@@ -81,19 +96,6 @@ impl Dice {
         }
     }
 }
-
-pub const EDGE_WORDS: [u32; 8] = [
-    0x0000_0000,
-    0x0000_0001,
-    0x0000_0002,
-    0x7FFF_FFFF,
-    0x8000_0000,
-    0x8000_0001,
-    0xFFFF_FFFE,
-    0xFFFF_FFFF,
-];
-
-pub const EDGE_BYTES: [u8; 7] = [0x00, 0x01, 0x55, 0x7F, 0x80, 0xAA, 0xFF];
 
 #[cfg(test)]
 mod tests {
@@ -105,5 +107,15 @@ mod tests {
         assert_eq!(dice.roll(), 0xE220_A839_7B1D_CDAF);
         assert_eq!(dice.roll(), 0x6E78_9E6A_A1B9_65F4);
         assert_eq!(dice.roll(), 0x06C4_5D18_8009_454F);
+    }
+
+    #[test]
+    fn things_of_one_seed_have_dice_of_their_own() {
+        let mut firsts: Vec<u64> = (0..1_000)
+            .map(|index| Dice::for_one(1, index).roll())
+            .collect();
+        firsts.sort_unstable();
+        firsts.dedup();
+        assert_eq!(firsts.len(), 1_000);
     }
 }

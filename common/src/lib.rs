@@ -1,0 +1,9 @@
+//! What the programs around the engine share: dice, the table of instructions, the form of a call for the program `probe`, other
+//! programs within a time limit, and Hercules.
+
+pub mod bounded;
+pub mod bytes;
+pub mod dice;
+pub mod hercules;
+pub mod probe;
+pub mod set;
