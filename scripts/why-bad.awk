@@ -48,9 +48,9 @@ function begin_sheet() {
 function end_sheet() {
     if (size > 65536) { bad_line = 0; reason = "the sheet has more than 65,536 bytes"; return }
     if (reason != "") return
-    if (fields > 1 || size_of[1] > 0) { number++; blame("the sheet ends in this line without LF (line feed): every line ends in one"); return }
     number++
-    if (stage < 3) blame((size == 0 ? "the sheet is empty" : "the sheet ends here") ", and the START line is missing")
+    if (fields > 1 || size_of[1] > 0) blame("the sheet ends in this line without LF (line feed): every line ends in one")
+    else if (stage < 3) blame((size == 0 ? "the sheet is empty" : "the sheet ends here") ", and the START line is missing")
     else if (stage == 3) blame("the sheet ends here, and the RUN line is missing")
 }
 
@@ -119,7 +119,8 @@ function in_order(kind) {
 
 function judge_count(kind,    has) {
     has = fields - 1
-    blame(kind " has " values[kind] (values[kind] == 1 ? " value (" : " values (") parts[kind] "), each after one tab, and this line has " has \
+    blame(kind " has " values[kind] (values[kind] == 1 ? " value (" : " values (") parts[kind] \
+        "), each after one tab, and this line has " has \
         (size_of[fields] == 0 && has > 0 ? ", the last one empty" : ""))
 }
 
@@ -154,6 +155,7 @@ function judge_bytes(    n) {
     else if (n > 64) blame_field(3, "the bytes", "a line has at most 32 bytes, 64 hex digits, and here are " n " characters")
     else if (hex_of(3, "the bytes", n)) {
         if (n % 2) blame_field(3, "the bytes", "each byte has two hex digits, and here are " n)
-        else if (plain[2] + n / 2 > 65536) blame("the bytes reach past the end of memory: the last address is 65535, and byte " n / 2 " would lie at " plain[2] + n / 2 - 1)
+        else if (plain[2] + n / 2 > 65536)
+            blame("the bytes reach past the end of memory: the last address is 65535, and byte " n / 2 " would lie at " plain[2] + n / 2 - 1)
     }
 }
