@@ -16,7 +16,7 @@ fn main() {
 fn folder() -> Result<PathBuf, String> {
     let is_x86_64 = env::var("CARGO_CFG_TARGET_ARCH").is_ok_and(|arch| arch == "x86_64");
     let (place, command) = if is_x86_64 {
-        ("staticlib", "rt staticlib outer")
+        ("staticlib", "scripts/build outer")
     } else {
         (
             "native",

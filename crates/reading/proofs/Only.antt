@@ -3,7 +3,7 @@ use mathlib.Core.Path.{_≡_, refl, sym, ap, _∙_}
 use mathlib.Core.List.{List}
 use Prim.Native.Nat.{ℕ}
 use Rattle.reading.specs.Sheet.{Reading, bad, good}
-use Rattle.reading.specs.Told.{asReading}
+use Rattle.reading.specs.Answered.{asReading}
 use Rattle.reading.specs.declared.Reading as Answer
 use Rattle.reading.specs.declared.Reading.the-variants.{Bad, Good}
 

@@ -5,5 +5,5 @@ pub mod Line
 pub mod Order
 pub mod Setting
 pub mod Sheet
-pub mod Told
+pub mod Answered
 pub mod Within

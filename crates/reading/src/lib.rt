@@ -10,7 +10,7 @@ ghost use Prim.Native.Nat.{_≤_};
 ghost use lib.ListN.{length};
 ghost use Rattle.reading.specs.Cut.{count};
 ghost use Rattle.reading.specs.Sheet.{readOnto};
-ghost use Rattle.reading.specs.Told.{asReading};
+ghost use Rattle.reading.specs.Answered.{asReading};
 ghost use Rattle.reading.specs.Within.{left, stateOf, readLines};
 use cut::front;
 use sheet::Progress;

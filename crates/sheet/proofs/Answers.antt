@@ -4,7 +4,7 @@ use mathlib.Core.Path.{_≡_, refl, sym, _∙_, ap}
 use mathlib.Core.List.{List}
 use lib.ListN.{replicate}
 use Rattle.reading.specs.Sheet.{Reading, readingOf, readOnto}
-use Rattle.reading.specs.Told.{asReading}
+use Rattle.reading.specs.Answered.{asReading}
 use Rattle.reading.specs.declared.Reading as Read
 use Rattle.reading.specs.declared.Reading.the-variants.{Bad, Good}
 use Rattle.reading.specs.declared.Start.{Start}
