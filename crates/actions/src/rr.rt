@@ -14,7 +14,7 @@ ghost use Rattle.actions.specs.Answered.{cpuOf};
 fn combine(regs: &mut [u32], c: Now, op: Alu, h1: u16) -> Now
     ensures { λ n. ⌜ done (cpuOf (now (regs .exit)) n) ≡ rr (RrAction.Registers op) (rrOf h1) (cpuOf (now (regs .entry)) c) ⌝ }
 {
-    let f = code::split_rr(h1);
+    let f = decode::split_rr(h1);
     let a = registers::reg(regs, f.r1);
     let b = registers::reg(regs, f.r2);
     let result = words::combine(op, a, b, c.code);
@@ -30,7 +30,7 @@ fn combine(regs: &mut [u32], c: Now, op: Alu, h1: u16) -> Now
 fn branch(regs: &mut [u32], c: Now, kind: Branch, h1: u16) -> Now
     ensures { λ n. ⌜ done (cpuOf (now (regs .exit)) n) ≡ rr (RrAction.RegisterBranch kind) (rrOf h1) (cpuOf (now (regs .entry)) c) ⌝ }
 {
-    let f = code::split_rr(h1);
+    let f = decode::split_rr(h1);
     let to = registers::reg(regs, f.r2) % 16777216;
     branches::take(regs, c, kind, 2, f.r1, to, 0 < f.r2)
 }

@@ -1,3 +1,2 @@
-mod Decoding
 mod Rows
 mod SaysOnce

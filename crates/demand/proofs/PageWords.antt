@@ -57,10 +57,6 @@ module _ (v w : ℕ) (h : Twin v w) where
   unfolding real
   real-twin d = rw base-twin
 
-  pub tests-twin : (acc : Access) (a : ℕ) → tests acc a v ≡ tests acc a w
-  unfolding tests sixTests
-  tests-twin acc a = rw (twin-u, twin-x, twin-m, twin-s, twin-e)
-
   pub open-twin : Open v → Open w
   open-twin o = record { u = sym twin-u ∙ o .u; s = sym twin-s ∙ o .s; x = sym twin-x ∙ o .x }
 

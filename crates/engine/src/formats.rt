@@ -19,7 +19,7 @@ fn past_of(pc: u32, n: u32) -> u32
     ((pc as u64 + n as u64) % 16777216) as u32
 }
 
-// How many halfwords are fetched, by the first: one only of an operation that is not known. Asking `code::action_of` a second time would
+// How many halfwords are fetched, by the first: one only of an operation that is not known. Asking `decode::action_of` a second time would
 // make its answer in `finish` slower, so the known operations of four and six bytes are marked here: a row for each left digit of the
 // code, with the right digit 0 at the right.
 fn halves_of(h1: u16) -> u32
@@ -120,16 +120,16 @@ pub fn finish(
 ) -> Out
     ensures { λ r. ⌜ told r (now (regs .exit)) c (framedOf (now (mem .exit)) (now (map .exit))) ≡ doing (whole h1 h2 h3) (now (regs .entry)) c (framedOf (now (mem .entry)) (now (map .entry))) ⌝ }
 {
-    let found = code::action_of((h1 / 256) as u8);
+    let found = decode::action_of((h1 / 256) as u8);
     let Found::Known(x) = found else {
         return Out::Stop(5, c.pc);
     };
     match x {
         Action::Rr(y) => Out::Done(actions::rr::execute(regs, c, y, h1)),
-        Action::Rx(y) => rx_si::rx::execute(regs, mem, map, c, y, code::split_rx(h1, h2)),
-        Action::Rs(y) => rs_ss::rs::execute(regs, mem, map, c, y, code::split_rs(h1, h2)),
-        Action::Si(y) => rx_si::si::execute(regs, mem, map, c, y, code::split_si(h1, h2)),
-        Action::Ss(y) => rs_ss::ss::execute(regs, mem, map, c, y, code::split_ss(h1, h2, h3)),
+        Action::Rx(y) => rx_si::rx::execute(regs, mem, map, c, y, decode::split_rx(h1, h2)),
+        Action::Rs(y) => rs_ss::rs::execute(regs, mem, map, c, y, decode::split_rs(h1, h2)),
+        Action::Si(y) => rx_si::si::execute(regs, mem, map, c, y, decode::split_si(h1, h2)),
+        Action::Ss(y) => rs_ss::ss::execute(regs, mem, map, c, y, decode::split_ss(h1, h2, h3)),
     }
 }
 

@@ -96,6 +96,6 @@ slips =
     ∷ operation "third halfword not looked up" 0xd2 thirdUnseen (ending (0xd2 ∷ 0 ∷ 0x20 ∷ 0 ∷ []) 4 (0 ∷ 0 ∷ 0xa000 ∷ [])) 0xb000 0
     -- SLL 1,1
     ∷ steps "SLL and SRL swapped" (stepBy (stepFinding swapped)) (lone (0x89 ∷ 0x10 ∷ 0 ∷ 1 ∷ []) (0 ∷ 6 ∷ [])) 12 3
-    -- code::split_ss
+    -- decode::split_ss
     ∷ row "the SS length byte of four bits" (told (ssOf 0xd2ff 0x2000 0x3000)) (told (shortLength 0xd2ff 0x2000 0x3000)) 255 15
     ∷ []

@@ -11,7 +11,7 @@ use Rattle.actions.proofs.rr.branch.Reads as reads
 use Rattle.actions.proofs.rr.branch.Lts as lts
 use Rattle.actions.proofs.branches.take.Reads as take-reads
 use Rattle.actions.proofs.registers.reg.Reads as reg-reads
-use Rattle.code.proofs.split_rr.Reads as split-rr-reads
+use Rattle.decode.proofs.split_rr.Reads as split-rr-reads
 
 -- src/rr.rt:33:9
 split-rr-requires : tie.Need-split-rr-requires

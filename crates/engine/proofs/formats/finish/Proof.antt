@@ -11,11 +11,11 @@ use Rattle.rs_ss.proofs.rs.execute.Reads as rs-execute-reads
 use Rattle.rx_si.proofs.rx.execute.Reads as rx-execute-reads
 use Rattle.rx_si.proofs.si.execute.Reads as si-execute-reads
 use Rattle.rs_ss.proofs.ss.execute.Reads as ss-execute-reads
-use Rattle.code.proofs.action_of.Reads as action-of-reads
-use Rattle.code.proofs.split_rs.Reads as split-rs-reads
-use Rattle.code.proofs.split_rx.Reads as split-rx-reads
-use Rattle.code.proofs.split_si.Reads as split-si-reads
-use Rattle.code.proofs.split_ss.Reads as split-ss-reads
+use Rattle.decode.proofs.action_of.Reads as action-of-reads
+use Rattle.decode.proofs.split_rs.Reads as split-rs-reads
+use Rattle.decode.proofs.split_rx.Reads as split-rx-reads
+use Rattle.decode.proofs.split_si.Reads as split-si-reads
+use Rattle.decode.proofs.split_ss.Reads as split-ss-reads
 
 -- src/formats.rt:123:33
 cast-action-of : tie.Need-cast-action-of

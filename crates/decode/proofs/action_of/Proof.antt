@@ -1,10 +1,10 @@
 use mathlib.Core.Path.{refl}
 use Rattle.code.specs.Table.{actionOf, table}
-use Rattle.code.proofs.Decoding.{at-code, unknown-code}
-use Rattle.code.proofs.action_of.Statement.{statement}
-use Rattle.code.proofs.action_of.Tie as tie
-use Rattle.code.proofs.action_of.Reads as reads
-use Rattle.code.proofs.action_of.Lts as lts
+use Rattle.decode.proofs.Decoding.{at-code, unknown-code}
+use Rattle.decode.proofs.action_of.Statement.{statement}
+use Rattle.decode.proofs.action_of.Tie as tie
+use Rattle.decode.proofs.action_of.Reads as reads
+use Rattle.decode.proofs.action_of.Lts as lts
 
 returns : tie.Need-returns
 unfolding actionOf table
