@@ -104,8 +104,9 @@ clean-step g (finished d t) p h l s =
       six = λ e. absurd (omega (arith, e));
       always-six = λ e. absurd (let z : _≡_ {A = ℕ} 0 1 = cc in omega arith);
       trace = λ e. absurd (e refl);
-      completed = λ e. refl;
+      completed = λ e. (refl, refl);
       uncounted = λ e. absurd (e refl);
+      away = λ e. refl;
       again = λ e. still-proper g (one (cpuIn g) (finished d t)) p h l;
     }
 clean-step g (refused n a t) p h l s =
@@ -116,6 +117,7 @@ clean-step g (refused n a t) p h l s =
       trace = λ e. ap (λ (u : Framed). handed (stepped g (refused n a u))) (h .1);
       completed = λ e. absurd (omega (arith, h .0 .0, e));
       uncounted = λ e. refl;
+      away = λ e. absurd (omega (arith, h .0 .1, e));
       again = λ e. still-proper g (one (cpuIn g) (refused n a t)) p s l;
     }
 
@@ -128,6 +130,7 @@ away-step g p =
       trace = λ e. refl;
       completed = λ e. absurd (omega (arith, e));
       uncounted = λ e. refl;
+      away = λ e. refl;
       again = λ e. e;
     }
 
@@ -208,9 +211,13 @@ module _ (b : ℕ) (r : Result Cpu Framed) where
   not-six (spent e f k) z = omega (arith, e, z)
   not-six (stopped k n e) z = omega (arith, n .1, z)
 
-  all-spent : Ended b r → r .stop ≡ 7 → r .count ≡ b
-  all-spent (spent e f k) z = k
+  all-spent : Ended b r → r .stop ≡ 7 → (r .count ≡ b) × (r .place ≡ 0)
+  all-spent (spent e f k) z = (k, f)
   all-spent (stopped k n e) z = absurd (omega (arith, n .1, z))
+
+  just-spent : Ended b r → r .count ≡ b → r .stop ≡ 7
+  just-spent (spent e f k) z = e
+  just-spent (stopped k n e) z = absurd (omega (arith, k, z))
 
   some-left : Ended b r → r .stop < 6
       → (r .count < b) × (interp framed (step (r .cpu)) (r .held) (r .held) ≡ refused (r .stop) (r .place) (r .held))
@@ -268,6 +275,7 @@ module _ (budget : ℕ) (g : Given) (p : proper g ≡ true) (l : budget ≤ 6553
         away = λ e. absurd (not-six budget ran end e);
         most = most;
         spent = all-spent budget ran end;
+        always-spent = λ n. just-spent budget ran end;
         named = ap handed (sym at-count);
         counted = ap (λ (o : Outcome). o .reply .count) at-count;
         refused = λ e. (some-left budget ran end e .0, next-step (some-left budget ran end e .1));
@@ -299,9 +307,10 @@ away-run budget g h =
       some = λ e. omega (arith, e);
       six = λ e. h;
       always-six = λ e. refl;
-      away = λ e. (refl, refl);
+      away = λ e. (refl, refl, refl);
       most = omega arith;
       spent = λ e. absurd (omega (arith, e));
+      always-spent = λ n. absurd (n refl);
       named = sym (handed-none g);
       counted = counted-none g;
       refused = λ e. absurd (omega (arith, e));

@@ -38,9 +38,10 @@ pub record CleanStep (g : Given) (o : Outcome) : Type 0 where
   pub always-six : proper g ≡ false → o .reply .number ≡ 6
   -- refused or turned away, it has left no trace
   pub trace : o .reply .number ≢ 0 → handed o ≡ g
-  -- only what completed is counted
-  pub completed : o .reply .number ≡ 0 → o .reply .count ≡ 1
+  -- only what completed is counted; place 0 with 0 and with 6
+  pub completed : o .reply .number ≡ 0 → (o .reply .count ≡ 1) × (o .reply .place ≡ 0)
   pub uncounted : o .reply .number ≢ 0 → o .reply .count ≡ 0
+  pub away : o .reply .number ≡ 6 → o .reply .place ≡ 0
   -- what was proper stays so: what is handed back can be lent again
   pub again : proper g ≡ true → proper (handed o) ≡ true
 
@@ -52,10 +53,11 @@ pub record CleanRun (budget : ℕ) (g : Given) (o : Outcome) : Type 0 where
   -- 6 comes exactly where a list has the wrong size, or counter, code, mask or budget is out of range; then nothing is altered
   pub six : o .reply .number ≡ 6 → both (proper g) (leb budget 65535) ≡ false
   pub always-six : both (proper g) (leb budget 65535) ≡ false → o .reply .number ≡ 6
-  pub away : o .reply .number ≡ 6 → (handed o ≡ g) × (o .reply .count ≡ 0)
-  -- the count is never above the budget, and 7 comes exactly with the budget spent
+  pub away : o .reply .number ≡ 6 → (handed o ≡ g) × (o .reply .count ≡ 0) × (o .reply .place ≡ 0)
+  -- the count is never above the budget; 7 comes exactly where the budget is spent
   pub most : o .reply .count ≤ budget
-  pub spent : o .reply .number ≡ 7 → o .reply .count ≡ budget
+  pub spent : o .reply .number ≡ 7 → (o .reply .count ≡ budget) × (o .reply .place ≡ 0)
+  pub always-spent : o .reply .number ≢ 6 → o .reply .count ≡ budget → o .reply .number ≡ 7
   -- what is handed back is what the run of exactly `count` steps hands back, and that run completes them all
   pub named : handed o ≡ handed (runOutcome (o .reply .count) g)
   pub counted : (runOutcome (o .reply .count) g) .reply .count ≡ o .reply .count

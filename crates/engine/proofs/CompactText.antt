@@ -11,8 +11,8 @@ use Rattle.pages.specs.Framed.{framedOf}
 use Rattle.pages.proofs.CompactLaws.{compact-inside, compact-below}
 use Rattle.fields.specs.Direct.{readField, flat}
 use Rattle.fields.proofs.Found.{compact-half-look, compact-half-read}
-use Rattle.engine.specs.declared.Text.the-variants as T
-use Rattle.engine.specs.Entry.{textOf}
+use Rattle.engine.specs.declared.Fetched.the-variants as T
+use Rattle.engine.specs.Entry.{fetchedOf}
 use Rattle.engine.proofs.Texts.{text-found}
 
 module _ (mem map : List ℕ) (pc : ℕ) (b : Bool) (eb : b ≡ compact map (length mem) Fetch pc 6) (t : b ≡ true) (r : ℕ) (er : r ≡ realOf map pc) where
@@ -34,7 +34,7 @@ module _ (mem map : List ℕ) (pc : ℕ) (b : Bool) (eb : b ≡ compact map (len
       e ∙ ap (λ (y : ℕ). flat mem y 2 0) at ∙ compact-half-read mem map Fetch pc 6 b eb t d l
 
   pub text-compact : (h1 h2 h3 : ℕ) → h1 ≡ flat mem r 2 0 → h2 ≡ flat mem (r + 2) 2 0 → h3 ≡ flat mem (r + 4) 2 0
-      → T.Whole h1 h2 h3 ≡ textOf (framedOf mem map) pc
+      → T.Whole h1 h2 h3 ≡ fetchedOf (framedOf mem map) pc
   text-compact h1 h2 h3 e1 e2 e3 =
       let z : r ≡ r + 0 = omega arith in
       text-found (framedOf mem map) pc (compact-below map (length mem) Fetch pc 6 b eb t)

@@ -15,8 +15,8 @@ use Rattle.machine.proofs.MarksLast.{late, read-noted, onStore}
 use Rattle.fields.specs.Direct.{noteField, readField}
 use Rattle.fields.proofs.Bridge.{gets-is}
 use Rattle.actions.proofs.Looks.{one-stop, one-go}
-use Rattle.engine.specs.declared.Text.{Text}
-use Rattle.engine.specs.declared.Text.the-variants as T
+use Rattle.engine.specs.declared.Fetched.{Fetched}
+use Rattle.engine.specs.declared.Fetched.the-variants as T
 use Rattle.engine.specs.Entry.{orStop, lookHalf}
 
 -- a read does not see a mark
@@ -47,11 +47,11 @@ late-half a p kept s =
     ∙ onStore-twice (λ (t : Framed). noted t a) (λ (t : Framed). noted t (next a)) (interp framed p kept s)
 
 -- what an instruction comes to, by its text: refused, or what the action on the halfwords comes to, with f's marks
-abbrev pub comesTo : {R : Type 0} → Text → (Framed → Framed) → Answer R Framed → Framed → Answer R Framed
+abbrev pub comesTo : {R : Type 0} → Fetched → (Framed → Framed) → Answer R Framed → Framed → Answer R Framed
 comesTo (T.Whole h1 h2 h3) f x s = onStore f x
 comesTo (T.Stop k a) f x s = refused k a s
 
-comes-marked : {R : Type 0} (t : Text) (f g : Framed → Framed) (x : Answer R Framed) (s : Framed)
+comes-marked : {R : Type 0} (t : Fetched) (f g : Framed → Framed) (x : Answer R Framed) (s : Framed)
     → onStore g (comesTo t f x s) ≡ comesTo t (λ u. g (f u)) x s
 comes-marked (T.Whole h1 h2 h3) f g x s = onStore-twice f g x
 comes-marked (T.Stop k a) f g x s = refl
@@ -62,7 +62,7 @@ comes-unchanged h1 h2 h3 (finished r t) s = refl
 comes-unchanged h1 h2 h3 (refused n a t) s = refl
 
 -- a halfword in front of what the rest comes to
-pub half-comes : {R : Type 0} (mem map : List ℕ) (a : ℕ) (k : ℕ → Prog R) (t : Text) (f : Framed → Framed) (x : Answer R Framed)
+pub half-comes : {R : Type 0} (mem map : List ℕ) (a : ℕ) (k : ℕ → Prog R) (t : Fetched) (f : Framed → Framed) (x : Answer R Framed)
     → interp framed (k (readField (framedOf mem map) a 2 0)) (framedOf mem map) (framedOf mem map) ≡ comesTo t f x (framedOf mem map)
     → interp framed (halfword a k) (framedOf mem map) (framedOf mem map)
     ≡ comesTo (orStop (lookHalf (framedOf mem map) a) t) (λ u. marks a (f u)) x (framedOf mem map)

@@ -21,9 +21,9 @@ use Rattle.actions.specs.declared.Out.{Out}
 use Rattle.actions.specs.declared.Out.the-variants.{Done, Stop}
 use Rattle.actions.specs.Answered.{cpuOf, told}
 use Rattle.engine.specs.declared.Ran.{Ran}
-use Rattle.engine.specs.declared.Text.{Text}
-use Rattle.engine.specs.declared.Text.the-variants as T
-use Rattle.engine.specs.Entry.{ranAs, textSays}
+use Rattle.engine.specs.declared.Fetched.{Fetched}
+use Rattle.engine.specs.declared.Fetched.the-variants as T
+use Rattle.engine.specs.Entry.{ranAs, fetchedSays}
 
 -- `r ≡ ..` and `now (list .exit) ≡ ..`: the answer itself
 pub only : {A : Type 0} (a a′ x : A) → a ≡ x → a′ ≡ x → a ≡ a′
@@ -137,15 +137,15 @@ module _ (r r′ : Reply) (mem mem′ map map′ regs regs′ : List ℕ) where
   one-run-answer budget g = only-outcome (runOutcome budget g)
 
 -- what a text says in document 01's terms it says once
-abbrev textFrom : ℕ → List ℕ → Text
+abbrev textFrom : ℕ → List ℕ → Fetched
 textFrom n [] = T.Stop n 0
 textFrom n (a ∷ []) = T.Stop n a
 textFrom n (a ∷ b ∷ []) = T.Stop n a
 textFrom n (a ∷ b ∷ c ∷ l) = T.Whole a b c
 
-text-back : (t : Text) → textFrom (textSays t .number) (textSays t .values) ≡ t
+text-back : (t : Fetched) → textFrom (fetchedSays t .number) (fetchedSays t .values) ≡ t
 text-back (T.Whole h1 h2 h3) = refl
 text-back (T.Stop n a) = refl
 
-pub text-once : (t u : Text) → textSays t ≡ textSays u → t ≡ u
-text-once t u e = sym (text-back t) ∙ ap (λ (s : Said (List ℕ)). textFrom (s .number) (s .values)) e ∙ text-back u
+pub fetched-once : (t u : Fetched) → fetchedSays t ≡ fetchedSays u → t ≡ u
+fetched-once t u e = sym (text-back t) ∙ ap (λ (s : Said (List ℕ)). textFrom (s .number) (s .values)) e ∙ text-back u

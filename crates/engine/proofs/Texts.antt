@@ -39,9 +39,9 @@ use Rattle.actions.specs.declared.Now.{Now}
 use Rattle.actions.specs.declared.Out.{Out}
 use Rattle.actions.specs.declared.Out.the-variants.{Done, Stop}
 use Rattle.actions.specs.Answered.{cpuOf, told, doing, refusalOf}
-use Rattle.engine.specs.declared.Text.{Text}
-use Rattle.engine.specs.declared.Text.the-variants as T
-use Rattle.engine.specs.Entry.{past, halves, halvesOf, orStop, unless, lookHalf, furtherOf, wholeOf, textOf, actWhole, whole, markFurther, markHalves, markedText}
+use Rattle.engine.specs.declared.Fetched.{Fetched}
+use Rattle.engine.specs.declared.Fetched.the-variants as T
+use Rattle.engine.specs.Entry.{past, halves, halvesOf, orStop, unless, lookHalf, furtherOf, wholeOf, fetchedOf, actWhole, whole, markFurther, markHalves, markedText}
 use Rattle.engine.proofs.Halfwords.{marks, comesTo, comes-unchanged, half-comes}
 
 -- the store with the marks of the further halfwords, and of all
@@ -57,7 +57,7 @@ module _ (regs : List ℕ) (c : Now) (mem map : List ℕ) where
   acted f h1 =
       interp framed (actWhole f h1 (readField (framedOf mem map) (past (c .pc) 2) 2 0) (readField (framedOf mem map) (past (c .pc) 4) 2 0) (cpuOf regs c)) (framedOf mem map) (framedOf mem map)
 
-  abbrev all-halves : Text
+  abbrev all-halves : Fetched
   all-halves = wholeOf (framedOf mem map) (c .pc)
 
   nothing-more : (x : Answer Cpu Framed) → x ≡ comesTo (wholeOf (framedOf mem map) (c .pc)) (λ u. u) x (framedOf mem map)
@@ -87,10 +87,10 @@ module _ (regs : List ℕ) (c : Now) (mem map : List ℕ) where
   -- a step from an even counter
   step-comes : (c .pc % 2 ≡ 1 → ⊥)
       → interp framed (step (cpuOf regs c)) (framedOf mem map) (framedOf mem map)
-      ≡ comesTo (textOf (framedOf mem map) (c .pc)) (text-marks (halvesOf (readField (framedOf mem map) (c .pc) 2 0)) (c .pc))
+      ≡ comesTo (fetchedOf (framedOf mem map) (c .pc)) (text-marks (halvesOf (readField (framedOf mem map) (c .pc) 2 0)) (c .pc))
       (interp framed (whole (readField (framedOf mem map) (c .pc) 2 0) (readField (framedOf mem map) (past (c .pc) 2) 2 0) (readField (framedOf mem map) (past (c .pc) 4) 2 0) (cpuOf regs c)) (framedOf mem map) (framedOf mem map))
       (framedOf mem map)
-  unfolding step textOf whole markHalves
+  unfolding step fetchedOf whole markHalves
   step-comes h =
       rw (ne-eqb (c .pc % 2) 1 h)
       (half-comes mem map (c .pc) (λ h1. known (actionOf (opOf h1)) h1 (cpuOf regs c))
@@ -100,17 +100,17 @@ module _ (regs : List ℕ) (c : Now) (mem map : List ℕ) where
       (further-comes (actionOf (opOf (readField (framedOf mem map) (c .pc) 2 0))) (readField (framedOf mem map) (c .pc) 2 0)))
 
 -- a text that is whole holds the halfwords
-passed : (l : Look) (t : Text) (h1 h2 h3 : ℕ) → orStop l t ≡ T.Whole h1 h2 h3 → t ≡ T.Whole h1 h2 h3
+passed : (l : Look) (t : Fetched) (h1 h2 h3 : ℕ) → orStop l t ≡ T.Whole h1 h2 h3 → t ≡ T.Whole h1 h2 h3
 passed (At r) t h1 h2 h3 e = e
 passed (Refused c a) t h1 h2 h3 e = absurd (let z : _≡_ {A = ℕ} 0 1 = cc in omega arith)
 
-passed-unless : (b : Bool) (l : Look) (t : Text) (h1 h2 h3 : ℕ) → unless b l t ≡ T.Whole h1 h2 h3 → t ≡ T.Whole h1 h2 h3
+passed-unless : (b : Bool) (l : Look) (t : Fetched) (h1 h2 h3 : ℕ) → unless b l t ≡ T.Whole h1 h2 h3 → t ≡ T.Whole h1 h2 h3
 passed-unless true l t h1 h2 h3 e = passed l t h1 h2 h3 e
 passed-unless false l t h1 h2 h3 e = e
 
-module _ (s : Framed) (pc h1 h2 h3 : ℕ) (e : textOf s pc ≡ T.Whole h1 h2 h3) where
+module _ (s : Framed) (pc h1 h2 h3 : ℕ) (e : fetchedOf s pc ≡ T.Whole h1 h2 h3) where
   is-whole : wholeOf s pc ≡ T.Whole h1 h2 h3
-  unfolding textOf
+  unfolding fetchedOf
   is-whole =
       passed-unless (ltb 2 (halvesOf (readField s pc 2 0))) (lookHalf s (past pc 4)) (wholeOf s pc) h1 h2 h3
       (passed-unless (ltb 1 (halvesOf (readField s pc 2 0))) (lookHalf s (past pc 2)) _ h1 h2 h3 (passed (lookHalf s pc) _ h1 h2 h3 e))
@@ -126,7 +126,7 @@ module _ (s : Framed) (pc h1 h2 h3 : ℕ) (e : textOf s pc ≡ T.Whole h1 h2 h3)
 
   -- and its counter is an address
   low : pc < 2097152
-  unfolding textOf lookOne lookField
+  unfolding fetchedOf lookOne lookField
   low = go (decLt pc 2097152)
     where
       go : Dec (pc < 2097152) → pc < 2097152
@@ -135,7 +135,7 @@ module _ (s : Framed) (pc h1 h2 h3 : ℕ) (e : textOf s pc ≡ T.Whole h1 h2 h3)
           let f : Refused Addressing pc ≡ lookOf (s .map) (length (s .mem)) Fetch pc = look-1 (s .map) (length (s .mem)) Fetch pc (omega arith) in
           absurd (let z : _≡_ {A = ℕ} 0 1 = cc (rw (← f) at e) in omega arith)
 
-pub text-low : (mem map : List ℕ) (pc : ℕ) (text : Text) (h1 h2 h3 : ℕ) → text ≡ textOf (framedOf mem map) pc → text ≡ T.Whole h1 h2 h3 → pc < 16777216
+pub text-low : (mem map : List ℕ) (pc : ℕ) (text : Fetched) (h1 h2 h3 : ℕ) → text ≡ fetchedOf (framedOf mem map) pc → text ≡ T.Whole h1 h2 h3 → pc < 16777216
 text-low mem map pc text h1 h2 h3 e t = omega (arith, low (framedOf mem map) pc h1 h2 h3 (sym e ∙ t))
 
 -- a result's store, changed where the step completed
@@ -159,7 +159,7 @@ module _ (regs : List ℕ) (c : Now) (mem map : List ℕ) where
   unfolding step told interp
   step-odd h = rw (eq-eqb (c .pc % 2) 1 h)
 
-  module _ (h : c .pc % 2 ≡ 1 → ⊥) (text : Text) (e : text ≡ textOf (framedOf mem map) (c .pc)) where
+  module _ (h : c .pc % 2 ≡ 1 → ⊥) (text : Fetched) (e : text ≡ fetchedOf (framedOf mem map) (c .pc)) where
     pub step-stop : (k a : ℕ) → text ≡ T.Stop k a → told (Stop k a) regs c (framedOf mem map) ≡ doing step regs c (framedOf mem map)
     unfolding told
     step-stop k a t = rw (step-comes regs c mem map h, ← e, t)
@@ -190,25 +190,25 @@ unknown-stop regs c mem map h1 h2 h3 found e u = rw (← e, u)
 
 -- a text by its look-ups, the last first
 module _ (s : Framed) (pc second third h1 h2 h3 n : ℕ) where
-  pub text-each : (from-third from-second r : Text) → second ≡ past pc 2 → third ≡ past pc 4
+  pub text-each : (from-third from-second r : Fetched) → second ≡ past pc 2 → third ≡ past pc 4
       → h1 ≡ readField s pc 2 0 → h2 ≡ readField s second 2 0 → h3 ≡ readField s third 2 0 → n ≡ halvesOf h1
       → from-third ≡ unless (ltb 2 n) (lookHalf s third) (T.Whole h1 h2 h3)
       → from-second ≡ unless (ltb 1 n) (lookHalf s second) from-third
       → r ≡ orStop (lookHalf s pc) from-second
-      → r ≡ textOf s pc
-  unfolding textOf
+      → r ≡ fetchedOf s pc
+  unfolding fetchedOf
   text-each from-third from-second r es et e1 e2 e3 en f3 f2 f1 = rw (f1, f2, f3, en, e3, e2, e1, et, es)
 
 -- a text whose halfwords are all found
-found-stays : (b : Bool) (r : ℕ) (t : Text) → unless b (At r) t ≡ t
+found-stays : (b : Bool) (r : ℕ) (t : Fetched) → unless b (At r) t ≡ t
 found-stays true r t = refl
 found-stays false r t = refl
 
 module _ (s : Framed) (pc : ℕ) (l : pc + 6 ≤ 2097152) where
   pub text-found : (r1 r2 r3 h1 h2 h3 : ℕ) → At r1 ≡ lookHalf s (pc + 0) → At r2 ≡ lookHalf s (pc + 2) → At r3 ≡ lookHalf s (pc + 4)
       → h1 ≡ readField s (pc + 0) 2 0 → h2 ≡ readField s (pc + 2) 2 0 → h3 ≡ readField s (pc + 4) 2 0
-      → T.Whole h1 h2 h3 ≡ textOf s pc
-  unfolding textOf
+      → T.Whole h1 h2 h3 ≡ fetchedOf s pc
+  unfolding fetchedOf
   text-found r1 r2 r3 h1 h2 h3 l1 l2 l3 e1 e2 e3 =
       let zero-on : pc ≡ pc + 0 = omega arith in
       let two-on : past pc 2 ≡ pc + 2 = omega arith in
@@ -225,7 +225,7 @@ module _ (s : Framed) (pc : ℕ) (l : pc + 6 ≤ 2097152) where
       ∙ found-stays (ltb 2 (halvesOf h1)) r3 (T.Whole h1 h2 h3)))
 
 -- a refusal in the text's place; a look-up that refuses is never done
-module _ (look : Look) (d : Cause) (b : ℕ) (l : look ≡ Refused d b) (out : Out) (o : out ≡ refusalOf look) (text : Text) where
+module _ (look : Look) (d : Cause) (b : ℕ) (l : look ≡ Refused d b) (out : Out) (o : out ≡ refusalOf look) (text : Fetched) where
   pub stop-told : (k a : ℕ) → out ≡ Stop k a → T.Stop k a ≡ orStop look text
   stop-told k a e =
       let j : Stop k a ≡ Stop (numberOf d) b = sym e ∙ o ∙ ap refusalOf l in

@@ -34,15 +34,15 @@ use Rattle.actions.specs.declared.Now.{Now}
 use Rattle.actions.specs.declared.Out.{Out}
 use Rattle.actions.specs.declared.Out.the-variants.{Done, Stop}
 use Rattle.actions.specs.Answered.{cpuOf}
-use Rattle.engine.specs.declared.Text.{Text}
-use Rattle.engine.specs.declared.Text.the-variants as T
+use Rattle.engine.specs.declared.Fetched.{Fetched}
+use Rattle.engine.specs.declared.Fetched.the-variants as T
 use Rattle.engine.specs.declared.Ran.{Ran}
 use Rattle.engine.specs.declared.Window.{Window}
 
 -- the enum's cases in document 01's terms: the three halfwords, or a refusal's number and place
-abbrev pub textSays : Text → Said (List ℕ)
-textSays (T.Whole h1 h2 h3) = says 0 (h1 ∷ h2 ∷ h3 ∷ [])
-textSays (T.Stop n a) = says n (a ∷ [])
+abbrev pub fetchedSays : Fetched → Said (List ℕ)
+fetchedSays (T.Whole h1 h2 h3) = says 0 (h1 ∷ h2 ∷ h3 ∷ [])
+fetchedSays (T.Stop n a) = says n (a ∷ [])
 
 -- the address n bytes past pc
 abbrev pub past : ℕ → ℕ → ℕ
@@ -61,27 +61,27 @@ abbrev pub halvesOf : ℕ → ℕ
 halvesOf h1 = halves (actionOf (opOf h1))
 
 -- a halfword's look-up that is wanted and refuses, or the text as it is
-abbrev pub orStop : Look → Text → Text
+abbrev pub orStop : Look → Fetched → Fetched
 orStop (At r) t = t
 orStop (Refused c a) t = T.Stop (numberOf c) a
 
-abbrev pub unless : Bool → Look → Text → Text
+abbrev pub unless : Bool → Look → Fetched → Fetched
 unless b l t = pick b (orStop l t) t
 
 abbrev pub lookHalf : Framed → ℕ → Look
 lookHalf s a = lookOne (s .map) (length (s .mem)) Fetch a 2
 
 -- the second and the third halfword of n, and then the first: the lowest refusal comes first
-abbrev pub furtherOf : Framed → ℕ → ℕ → Text → Text
+abbrev pub furtherOf : Framed → ℕ → ℕ → Fetched → Fetched
 furtherOf s pc n t =
     unless (ltb 1 n) (lookHalf s (past pc 2)) (unless (ltb 2 n) (lookHalf s (past pc 4)) t)
 
-abbrev pub wholeOf : Framed → ℕ → Text
+abbrev pub wholeOf : Framed → ℕ → Fetched
 wholeOf s pc = T.Whole (readField s pc 2 0) (readField s (past pc 2) 2 0) (readField s (past pc 4) 2 0)
 
 -- the halfwords from pc on; those that the operation lacks are read all the same, and nobody looks at them
-unfoldable pub textOf : Framed → ℕ → Text
-textOf s pc =
+unfoldable pub fetchedOf : Framed → ℕ → Fetched
+fetchedOf s pc =
     orStop (lookHalf s pc) (furtherOf s pc (halvesOf (readField s pc 2 0)) (wholeOf s pc))
 
 -- the action on halfwords that are in hand

@@ -1,5 +1,5 @@
 // The window of a run: the code page that it fetches from, looked up once.
-use crate::Text;
+use crate::Fetched;
 use crate::Window;
 use crate::formats;
 use pages::Access;
@@ -8,7 +8,7 @@ ghost use lib.Dec.{eqb};
 ghost use lib.ListN.{length};
 ghost use Rattle.pages.specs.Word.{bitG, wordOf};
 ghost use Rattle.pages.specs.Framed.{framedOf};
-ghost use Rattle.engine.specs.Entry.{Ready, inside, textOf};
+ghost use Rattle.engine.specs.Entry.{Ready, inside, fetchedOf};
 
 // No page: nothing lies in it.
 pub fn shut() -> Window
@@ -72,16 +72,16 @@ pub fn follow(mem: &[u8], map: &[u16], w: Window, pc: u32) -> Window
 }
 
 // The halfwords from pc on.
-pub fn text(mem: &[u8], map: &[u16], w: Window, pc: u32) -> Text
+pub fn text(mem: &[u8], map: &[u16], w: Window, pc: u32) -> Fetched
     requires { ⌜ Ready w (now map) (length (now mem)) ⌝ }
-    ensures { λ r. ⌜ r ≡ textOf (framedOf (now (mem .entry)) (now (map .entry))) pc ⌝ }
+    ensures { λ r. ⌜ r ≡ fetchedOf (framedOf (now (mem .entry)) (now (map .entry))) pc ⌝ }
 {
     if is_inside(w, pc) {
         let r = w.base + (pc - w.first) as usize;
         let h1 = fields::flat::half_of(mem, r);
         let h2 = fields::flat::half_of(mem, r + 2);
         let h3 = fields::flat::half_of(mem, r + 4);
-        return Text::Whole(h1, h2, h3);
+        return Fetched::Whole(h1, h2, h3);
     }
     formats::text(mem, map, pc)
 }

@@ -1,5 +1,5 @@
 // An instruction's halfwords: read first, all of them; then its action; then the marks of their pages.
-use crate::Text;
+use crate::Fetched;
 use actions::Now;
 use actions::Out;
 use code::Action;
@@ -10,7 +10,7 @@ ghost use mathlib.Core.Path.{_≡_};
 ghost use Prim.Native.Nat.{_<_};
 ghost use Rattle.pages.specs.Framed.{framedOf};
 ghost use Rattle.actions.specs.Answered.{told, doing};
-ghost use Rattle.engine.specs.Entry.{past, halvesOf, orStop, unless, lookHalf, textOf, whole, markHalf, markHalves, markedText};
+ghost use Rattle.engine.specs.Entry.{past, halvesOf, orStop, unless, lookHalf, fetchedOf, whole, markHalf, markHalves, markedText};
 
 // The address so many bytes past the counter.
 fn past_of(pc: u32, n: u32) -> u32
@@ -54,7 +54,7 @@ fn halves_of(h1: u16) -> u32
 }
 
 // A look-up's refusal, in place of the text.
-fn stop_of(look: Look, text: Text) -> Text
+fn stop_of(look: Look, text: Fetched) -> Fetched
     ensures { λ r. ⌜ r ≡ orStop look text ⌝ }
 {
     let Look::At(_) = look else {
@@ -62,13 +62,13 @@ fn stop_of(look: Look, text: Text) -> Text
         let Out::Stop(number, place) = out else {
             return text;
         };
-        return Text::Stop(number, place);
+        return Fetched::Stop(number, place);
     };
     text
 }
 
 // The text, unless its halfword at `at` is wanted and the look-up refuses it.
-fn checked(mem: &[u8], map: &[u16], at: u32, wanted: bool, text: Text) -> Text
+fn checked(mem: &[u8], map: &[u16], at: u32, wanted: bool, text: Fetched) -> Fetched
     ensures { λ r. ⌜ r ≡ unless wanted (lookHalf (framedOf (now (mem .entry)) (now (map .entry))) at) text ⌝ }
 {
     if wanted {
@@ -79,8 +79,8 @@ fn checked(mem: &[u8], map: &[u16], at: u32, wanted: bool, text: Text) -> Text
 }
 
 // The halfwords from the counter on, each looked up by itself: the last first, so that the lowest refusal is the one that stays.
-fn text_each(mem: &[u8], map: &[u16], pc: u32) -> Text
-    ensures { λ r. ⌜ r ≡ textOf (framedOf (now (mem .entry)) (now (map .entry))) pc ⌝ }
+fn text_each(mem: &[u8], map: &[u16], pc: u32) -> Fetched
+    ensures { λ r. ⌜ r ≡ fetchedOf (framedOf (now (mem .entry)) (now (map .entry))) pc ⌝ }
 {
     let second = past_of(pc, 2);
     let third = past_of(pc, 4);
@@ -88,22 +88,22 @@ fn text_each(mem: &[u8], map: &[u16], pc: u32) -> Text
     let h2 = fields::read_half(mem, map, second);
     let h3 = fields::read_half(mem, map, third);
     let n = halves_of(h1);
-    let whole = Text::Whole(h1, h2, h3);
+    let whole = Fetched::Whole(h1, h2, h3);
     let from_third = checked(mem, map, third, 2 < n, whole);
     let from_second = checked(mem, map, second, 1 < n, from_third);
     checked(mem, map, pc, true, from_second)
 }
 
 // The halfwords from the counter on: by one look-up where the six bytes are compact. Those that the operation lacks are read with the rest.
-pub fn text(mem: &[u8], map: &[u16], pc: u32) -> Text
-    ensures { λ r. ⌜ r ≡ textOf (framedOf (now (mem .entry)) (now (map .entry))) pc ⌝ }
+pub fn text(mem: &[u8], map: &[u16], pc: u32) -> Fetched
+    ensures { λ r. ⌜ r ≡ fetchedOf (framedOf (now (mem .entry)) (now (map .entry))) pc ⌝ }
 {
     if pages::is_compact(map, mem.len(), Access::Fetch, pc, 6) {
         let r = pages::real_at(map, pc);
         let h1 = fields::flat::half_of(mem, r);
         let h2 = fields::flat::half_of(mem, r + 2);
         let h3 = fields::flat::half_of(mem, r + 4);
-        return Text::Whole(h1, h2, h3);
+        return Fetched::Whole(h1, h2, h3);
     }
     text_each(mem, map, pc)
 }

@@ -10,7 +10,7 @@ ghost use mathlib.Core.Path.{_≡_};
 ghost use Rattle.machine.specs.Machine.{given, outcome, stepOutcome, runOutcome};
 
 // An instruction's halfwords from the counter on, or the refusal that comes before them all are had.
-pub enum Text {
+pub enum Fetched {
     Whole(u16, u16, u16),
     Stop(u32, u32),
 }

@@ -1,6 +1,6 @@
 // One step, and a run of steps.
+use crate::Fetched;
 use crate::Ran;
-use crate::Text;
 use crate::Window;
 use crate::fetching;
 use crate::formats;
@@ -27,8 +27,8 @@ pub fn step_once(regs: &mut [u32], mem: &mut [u8], map: &mut [u16], c: Now, w: W
     }
     let text = fetching::text(mem, map, w, pc);
     match text {
-        Text::Stop(number, place) => Out::Stop(number, place),
-        Text::Whole(h1, h2, h3) => {
+        Fetched::Stop(number, place) => Out::Stop(number, place),
+        Fetched::Whole(h1, h2, h3) => {
             let out = formats::finish(regs, mem, map, c, h1, h2, h3);
             if fetching::is_inside(w, pc) {
                 return out;
