@@ -17,7 +17,7 @@ fn combine(regs: &mut [u32], c: Now, op: Alu, h1: u16) -> Now
     let f = decode::split_rr(h1);
     let a = registers::reg(regs, f.r1);
     let b = registers::reg(regs, f.r2);
-    let result = words::combine(op, a, b, c.code);
+    let result = arithmetic::combine(op, a, b, c.code);
     let next = registers::ahead_of(regs, c, 2);
     registers::put_reg(regs, f.r1, result.value);
     Now {

@@ -49,11 +49,11 @@ fn open(mem: &[u8], map: &[u16], pc: u32) -> Window
     let page = pc / 4096;
     let first = page * 4096;
     if is_seen(map, page) {
-        if pages::is_compact(map, mem.len(), Access::Fetch, first, 4096) {
+        if lookup::is_compact(map, mem.len(), Access::Fetch, first, 4096) {
             return Window {
                 first: first,
                 len: 4091,
-                base: pages::real_at(map, first),
+                base: lookup::real_at(map, first),
             };
         }
     }

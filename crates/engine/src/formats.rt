@@ -98,8 +98,8 @@ fn text_each(mem: &[u8], map: &[u16], pc: u32) -> Fetched
 pub fn text(mem: &[u8], map: &[u16], pc: u32) -> Fetched
     ensures { λ r. ⌜ r ≡ fetchedOf (framedOf (now (mem .entry)) (now (map .entry))) pc ⌝ }
 {
-    if pages::is_compact(map, mem.len(), Access::Fetch, pc, 6) {
-        let r = pages::real_at(map, pc);
+    if lookup::is_compact(map, mem.len(), Access::Fetch, pc, 6) {
+        let r = lookup::real_at(map, pc);
         let h1 = fields::flat::half_of(mem, r);
         let h2 = fields::flat::half_of(mem, r + 2);
         let h3 = fields::flat::half_of(mem, r + 4);
@@ -157,7 +157,7 @@ pub fn mark(map: &mut [u16], pc: u32, h1: u16, out: Out)
 {
     if let Out::Done(_) = out {
         if pc % 4096 <= 4090 {
-            pages::note(map, pc);
+            lookup::note(map, pc);
             return;
         }
         mark_halves(map, pc, halves_of(h1));

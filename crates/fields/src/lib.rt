@@ -27,7 +27,7 @@ fn look_first(map: &[u16], size: usize, f: Field) -> Look
     ensures { λ r. ⌜ r ≡ lookOf (now (map .entry)) size (f .access) (f .at) ⌝ }
 {
     let access = f.access;
-    pages::look_up(map, size, access, f.at)
+    lookup::look_up(map, size, access, f.at)
 }
 
 // Every byte of both fields is looked up, first field, then second: the first refusal, or the first byte's real address.
@@ -43,12 +43,12 @@ fn look_each(map: &[u16], size: usize, first: Field, second: Field) -> Look
         let mut at = field.at;
         let mut left = field.len;
         while 0 < left {
-            let look = pages::look_up(map, size, access, at);
+            let look = lookup::look_up(map, size, access, at);
             let Look::At(_) = look else {
                 found = look;
                 break 'fields;
             };
-            at = pages::next_of(at);
+            at = lookup::next_of(at);
             left = left - 1;
         }
         k = k + 1;
@@ -62,9 +62,9 @@ pub fn look_two(map: &[u16], size: usize, first: Field, second: Field) -> Look
 {
     let access = first.access;
     let other = second.access;
-    if pages::is_compact(map, size, access, first.at, first.len) {
-        if pages::is_compact(map, size, other, second.at, second.len) {
-            return Look::At(pages::real_at(map, first.at));
+    if lookup::is_compact(map, size, access, first.at, first.len) {
+        if lookup::is_compact(map, size, other, second.at, second.len) {
+            return Look::At(lookup::real_at(map, first.at));
         }
     }
     look_each(map, size, first, second)
@@ -74,8 +74,8 @@ pub fn look_two(map: &[u16], size: usize, first: Field, second: Field) -> Look
 pub fn look_one(map: &[u16], size: usize, access: Access, at: u32, len: u32) -> Look
     ensures { λ r. ⌜ r ≡ lookOne (now (map .entry)) size access at len ⌝ }
 {
-    if pages::is_compact(map, size, access, at, len) {
-        return Look::At(pages::real_at(map, at));
+    if lookup::is_compact(map, size, access, at, len) {
+        return Look::At(lookup::real_at(map, at));
     }
     let field = Field {
         access: access,
@@ -95,7 +95,7 @@ pub fn note_field(map: &mut [u16], at: u32, len: u32)
     ensures { λ _. ⌜ now (map .exit) ≡ noteField (now (map .entry)) at len ⌝ }
 {
     if is_on_page(at, len) {
-        pages::note(map, at);
+        lookup::note(map, at);
         return;
     }
     note_each(map, at, len);
@@ -120,8 +120,8 @@ fn note_each(map: &mut [u16], at: u32, len: u32)
     let mut to = at;
     let mut left = len;
     while 0 < left {
-        pages::note(map, to);
-        to = pages::next_of(to);
+        lookup::note(map, to);
+        to = lookup::next_of(to);
         left = left - 1;
     }
 }
@@ -150,16 +150,16 @@ pub fn bytes_of(width: Width) -> u32
 fn half_each(mem: &[u8], map: &[u16], at: u32) -> u16
     ensures { λ r. ⌜ r ≡ readField (framedOf (now (mem .entry)) (now (map .entry))) at 2 0 ⌝ }
 {
-    let high = pages::read_byte(mem, map, at);
-    let low = pages::read_byte(mem, map, pages::next_of(at));
+    let high = lookup::read_byte(mem, map, at);
+    let low = lookup::read_byte(mem, map, lookup::next_of(at));
     high as u16 * 256 + low as u16
 }
 
 pub fn read_half(mem: &[u8], map: &[u16], at: u32) -> u16
     ensures { λ r. ⌜ r ≡ readField (framedOf (now (mem .entry)) (now (map .entry))) at 2 0 ⌝ }
 {
-    if pages::is_compact(map, mem.len(), Access::Load, at, 2) {
-        return flat::half_of(mem, pages::real_at(map, at));
+    if lookup::is_compact(map, mem.len(), Access::Load, at, 2) {
+        return flat::half_of(mem, lookup::real_at(map, at));
     }
     half_each(mem, map, at)
 }
@@ -168,15 +168,15 @@ fn word_each(mem: &[u8], map: &[u16], at: u32) -> u32
     ensures { λ r. ⌜ r ≡ readField (framedOf (now (mem .entry)) (now (map .entry))) at 4 0 ⌝ }
 {
     let high = half_each(mem, map, at);
-    let low = half_each(mem, map, pages::next_of(pages::next_of(at)));
+    let low = half_each(mem, map, lookup::next_of(lookup::next_of(at)));
     high as u32 * 65536 + low as u32
 }
 
 pub fn read_word(mem: &[u8], map: &[u16], at: u32) -> u32
     ensures { λ r. ⌜ r ≡ readField (framedOf (now (mem .entry)) (now (map .entry))) at 4 0 ⌝ }
 {
-    if pages::is_compact(map, mem.len(), Access::Load, at, 4) {
-        return flat::word_of(mem, pages::real_at(map, at));
+    if lookup::is_compact(map, mem.len(), Access::Load, at, 4) {
+        return flat::word_of(mem, lookup::real_at(map, at));
     }
     word_each(mem, map, at)
 }
@@ -184,8 +184,8 @@ pub fn read_word(mem: &[u8], map: &[u16], at: u32) -> u32
 fn write_half(mem: &mut [u8], map: &mut [u16], at: u32, v: u16)
     ensures { λ _. ⌜ framedOf (now (mem .exit)) (now (map .exit)) ≡ writeField (framedOf (now (mem .entry)) (now (map .entry))) at 2 v ⌝ }
 {
-    pages::write_byte(mem, map, at, (v / 256) as u8);
-    pages::write_byte(mem, map, pages::next_of(at), (v % 256) as u8);
+    lookup::write_byte(mem, map, at, (v / 256) as u8);
+    lookup::write_byte(mem, map, lookup::next_of(at), (v % 256) as u8);
 }
 
 fn word_put_each(mem: &mut [u8], map: &mut [u16], at: u32, v: u32)
@@ -195,7 +195,7 @@ fn word_put_each(mem: &mut [u8], map: &mut [u16], at: u32, v: u32)
     write_half(
         mem,
         map,
-        pages::next_of(pages::next_of(at)),
+        lookup::next_of(lookup::next_of(at)),
         (v % 65536) as u16,
     );
 }
@@ -203,9 +203,9 @@ fn word_put_each(mem: &mut [u8], map: &mut [u16], at: u32, v: u32)
 pub fn write_word(mem: &mut [u8], map: &mut [u16], at: u32, v: u32)
     ensures { λ _. ⌜ framedOf (now (mem .exit)) (now (map .exit)) ≡ writeField (framedOf (now (mem .entry)) (now (map .entry))) at 4 v ⌝ }
 {
-    if pages::is_compact(map, mem.len(), Access::Store, at, 4) {
-        flat::put_word(mem, pages::real_at(map, at), v);
-        pages::note_written(map, at);
+    if lookup::is_compact(map, mem.len(), Access::Store, at, 4) {
+        flat::put_word(mem, lookup::real_at(map, at), v);
+        lookup::note_written(map, at);
         return;
     }
     word_put_each(mem, map, at, v);
@@ -215,12 +215,12 @@ pub fn write_word(mem: &mut [u8], map: &mut [u16], at: u32, v: u32)
 pub fn move_field(mem: &mut [u8], map: &mut [u16], to: u32, from: u32, len: u32)
     ensures { λ _. ⌜ framedOf (now (mem .exit)) (now (map .exit)) ≡ moveField (framedOf (now (mem .entry)) (now (map .entry))) to from len ⌝ }
 {
-    if pages::is_compact(map, mem.len(), Access::Store, to, len) {
-        if pages::is_compact(map, mem.len(), Access::Load, from, len) {
-            let a = pages::real_at(map, to);
-            let b = pages::real_at(map, from);
+    if lookup::is_compact(map, mem.len(), Access::Store, to, len) {
+        if lookup::is_compact(map, mem.len(), Access::Load, from, len) {
+            let a = lookup::real_at(map, to);
+            let b = lookup::real_at(map, from);
             move_flat(mem, a, b, len);
-            pages::note_written(map, to);
+            lookup::note_written(map, to);
             return;
         }
     }
@@ -251,10 +251,10 @@ fn move_each(mem: &mut [u8], map: &mut [u16], to: u32, from: u32, len: u32)
     let mut b = from;
     let mut left = len;
     while 0 < left {
-        let v = pages::read_byte(mem, map, b);
-        pages::write_byte(mem, map, a, v);
-        a = pages::next_of(a);
-        b = pages::next_of(b);
+        let v = lookup::read_byte(mem, map, b);
+        lookup::write_byte(mem, map, a, v);
+        a = lookup::next_of(a);
+        b = lookup::next_of(b);
         left = left - 1;
     }
 }
@@ -263,10 +263,10 @@ fn move_each(mem: &mut [u8], map: &mut [u16], to: u32, from: u32, len: u32)
 pub fn compare_field(mem: &[u8], map: &[u16], first: u32, second: u32, len: u32) -> u32
     ensures { λ r. ⌜ r ≡ compareField (framedOf (now (mem .entry)) (now (map .entry))) first second len ⌝ }
 {
-    if pages::is_compact(map, mem.len(), Access::Load, first, len) {
-        if pages::is_compact(map, mem.len(), Access::Load, second, len) {
-            let a = pages::real_at(map, first);
-            let b = pages::real_at(map, second);
+    if lookup::is_compact(map, mem.len(), Access::Load, first, len) {
+        if lookup::is_compact(map, mem.len(), Access::Load, second, len) {
+            let a = lookup::real_at(map, first);
+            let b = lookup::real_at(map, second);
             return compare_flat(mem, a, b, len);
         }
     }
@@ -303,16 +303,16 @@ fn compare_each(mem: &[u8], map: &[u16], first: u32, second: u32, len: u32) -> u
     let mut b = second;
     let mut left = len;
     while 0 < left {
-        let x = pages::read_byte(mem, map, a);
-        let y = pages::read_byte(mem, map, b);
+        let x = lookup::read_byte(mem, map, a);
+        let y = lookup::read_byte(mem, map, b);
         if x < y {
             return 1;
         }
         if y < x {
             return 2;
         }
-        a = pages::next_of(a);
-        b = pages::next_of(b);
+        a = lookup::next_of(a);
+        b = lookup::next_of(b);
         left = left - 1;
     }
     0

@@ -125,7 +125,7 @@ fn shift_left(regs: &mut [u32], c: Now, f: RsFields) -> Now
     ensures { λ n. ⌜ done (cpuOf (now (regs .exit)) n) ≡ rs RsAction.ShiftLeft f (cpuOf (now (regs .entry)) c) ⌝ }
 {
     let amount = operand_address(regs, c, f);
-    let v = words::shift_left(registers::reg(regs, f.r1), amount);
+    let v = arithmetic::shift_left(registers::reg(regs, f.r1), amount);
     let next = registers::ahead_of(regs, c, 4);
     registers::put_reg(regs, f.r1, v);
     Now {
@@ -139,7 +139,7 @@ fn shift_right(regs: &mut [u32], c: Now, f: RsFields) -> Now
     ensures { λ n. ⌜ done (cpuOf (now (regs .exit)) n) ≡ rs RsAction.ShiftRight f (cpuOf (now (regs .entry)) c) ⌝ }
 {
     let amount = operand_address(regs, c, f);
-    let v = words::shift_right(registers::reg(regs, f.r1), amount);
+    let v = arithmetic::shift_right(registers::reg(regs, f.r1), amount);
     let next = registers::ahead_of(regs, c, 4);
     registers::put_reg(regs, f.r1, v);
     Now {
@@ -164,7 +164,7 @@ fn is_high(regs: &[u32], c: Now, f: RsFields, sum: u32) -> bool
     ensures { λ r. ⌜ r ≡ isHigh f (cpuOf (now (regs .entry)) c) ⌝ }
 {
     let other = registers::reg(regs, f.r3 / 2 * 2 + 1);
-    words::high(sum, other)
+    arithmetic::high(sum, other)
 }
 
 // BXH, and BXLE.

@@ -44,9 +44,9 @@ fn take(mem: &[u8], op: Operand, at: usize, x: u32, code: u32) -> Res
     ensures { λ r. ⌜ r ≡ taken op x (flat (now (mem .entry)) at (bytesOf (widthOf op)) 0) code ⌝ }
 {
     match op {
-        Operand::WordWith(alu) => words::combine(alu, x, fields::flat::word_of(mem, at), code),
+        Operand::WordWith(alu) => arithmetic::combine(alu, x, fields::flat::word_of(mem, at), code),
         Operand::HalfSpread => Res {
-            value: words::widen(fields::flat::half_of(mem, at)),
+            value: arithmetic::widen(fields::flat::half_of(mem, at)),
             code: code,
             over: false,
         },
@@ -72,7 +72,7 @@ fn load(regs: &mut [u32], mem: &[u8], map: &mut [u16], c: Now, op: Operand, f: R
         return actions::refusal(found);
     };
     let result = take(mem, op, i, registers::reg(regs, f.r1), c.code);
-    pages::note(map, at);
+    lookup::note(map, at);
     let next = registers::ahead_of(regs, c, 4);
     registers::put_reg(regs, f.r1, result.value);
     Out::Done(Now {
@@ -95,8 +95,8 @@ fn store(regs: &[u32], mem: &mut [u8], map: &mut [u16], c: Now, width: Width, f:
         return actions::refusal(found);
     };
     fields::flat::put_field(mem, i, width, registers::reg(regs, f.r1));
-    pages::note(map, at);
-    pages::note_written(map, at);
+    lookup::note(map, at);
+    lookup::note_written(map, at);
     Out::Done(Now {
         pc: registers::ahead_of(regs, c, 4),
         code: c.code,

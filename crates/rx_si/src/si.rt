@@ -34,10 +34,10 @@ fn compare(regs: &[u32], mem: &[u8], map: &mut [u16], c: Now, f: SiFields) -> Ou
         return actions::refusal(found);
     };
     let b = fields::flat::byte_of(mem, i);
-    pages::note(map, at);
+    lookup::note(map, at);
     Out::Done(Now {
         pc: registers::ahead_of(regs, c, 4),
-        code: words::compare_bits(wide(b), wide(f.i2)),
+        code: arithmetic::compare_bits(wide(b), wide(f.i2)),
         mask: c.mask,
     })
 }
@@ -52,10 +52,10 @@ fn test(regs: &[u32], mem: &[u8], map: &mut [u16], c: Now, f: SiFields) -> Out
         return actions::refusal(found);
     };
     let b = fields::flat::byte_of(mem, i);
-    pages::note(map, at);
+    lookup::note(map, at);
     Out::Done(Now {
         pc: registers::ahead_of(regs, c, 4),
-        code: words::mask_code(b, f.i2),
+        code: arithmetic::mask_code(b, f.i2),
         mask: c.mask,
     })
 }
@@ -69,13 +69,13 @@ fn bits(regs: &[u32], mem: &mut [u8], map: &mut [u16], c: Now, op: Logic, f: SiF
     let Look::At(i) = found else {
         return actions::refusal(found);
     };
-    let v = words::logic_byte(op, fields::flat::byte_of(mem, i), f.i2);
+    let v = arithmetic::logic_byte(op, fields::flat::byte_of(mem, i), f.i2);
     fields::flat::put_byte(mem, i, v);
-    pages::note(map, at);
-    pages::note_written(map, at);
+    lookup::note(map, at);
+    lookup::note_written(map, at);
     Out::Done(Now {
         pc: registers::ahead_of(regs, c, 4),
-        code: words::zero_code(wide(v)),
+        code: arithmetic::zero_code(wide(v)),
         mask: c.mask,
     })
 }
@@ -90,8 +90,8 @@ fn store(regs: &[u32], mem: &mut [u8], map: &mut [u16], c: Now, f: SiFields) -> 
         return actions::refusal(found);
     };
     fields::flat::put_byte(mem, i, f.i2);
-    pages::note(map, at);
-    pages::note_written(map, at);
+    lookup::note(map, at);
+    lookup::note_written(map, at);
     Out::Done(Now {
         pc: registers::ahead_of(regs, c, 4),
         code: c.code,

@@ -94,7 +94,7 @@ unwrapped a = a + 1
 
 abbrev pub slips : List Row
 slips =
-    -- pages::look_up, note_written, next_of
+    -- lookup::look_up, note_written, next_of
     looked "page 10 found as 110" (finding byEnding) 110 0x3003 0xa000 3 0
     ∷ looked "9 bits of the page's number cut to 6" (finding bySixBits) 10 0x3003 0x4a000 3 0
     ∷ looked "H honoured when M is reset" upperHalf 10 0x3203 0xa000 12288 14336
@@ -102,7 +102,7 @@ slips =
     ∷ looked "one byte past memory allowed" oneMore 10 0x3010 0xa000 1 0
     ∷ row "a W mark that clears G" (written 0x7003 ∷ []) (clearing 0x7003 ∷ []) 0xf003 0xb003
     ∷ row "a byte address that does not wrap" (next 0xffffff ∷ []) (unwrapped 0xffffff ∷ []) 0 0x1000000
-    -- pages::is_compact: two bytes from 00AFFF on, and from 00A000 on with E set
+    -- lookup::is_compact: two bytes from 00AFFF on, and from 00A000 on with E set
     ∷ quick "a field taken for compact whose last byte has another page" nextPage 10 0x3000 0xafff 2 0 1
     ∷ quick "a field taken for compact that is not to be stored to" asIfLoaded 10 0x3800 0xa000 2 0 1
     ∷ []

@@ -58,7 +58,7 @@ onesFirst b mask = pick (eqb (bitAnd b mask) mask) 3 (pick (eqb (bitAnd b mask) 
 abbrev zeros : ℕ → ℕ
 zeros h = h
 
--- value and code of `words::combine` for two operands, the code before being 0; and a number that is made of two
+-- value and code of `arithmetic::combine` for two operands, the code before being 0; and a number that is made of two
 abbrev results : String → Alu → (ℕ → ℕ → Res) → ℕ → ℕ → ℕ → ℕ → Row
 results slip op slipped a b one other = row slip (told (combineOf op a b 0)) (told (slipped a b)) one other
   where
@@ -75,9 +75,9 @@ slips =
     ∷ results "overflow of a signed subtract by the manual's garbled test" Subtract garbled 5 3 2 3
     ∷ results "LCR of 80000000 without overflow" Complement bySign 0 0x80000000 3 1
     ∷ results "a compare signed where it is logical" CompareLogical signedCompare 0x80000000 1 2 1
-    -- words::shift_left and mask_code
+    -- arithmetic::shift_left and mask_code
     ∷ numbers "shift amounts of five bits" shiftedLeft fiveBits 1 32 0 1
     ∷ numbers "TM with mask 0 as code 3" maskCode onesFirst 0x5a 0 0 3
-    -- words::widen
+    -- arithmetic::widen
     ∷ row "LH without its sign" (spread 0x8000 ∷ []) (zeros 0x8000 ∷ []) 0xffff8000 0x8000
     ∷ []

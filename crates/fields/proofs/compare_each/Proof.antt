@@ -9,8 +9,8 @@ use Rattle.fields.proofs.compare_each.Statement.{statement}
 use Rattle.fields.proofs.compare_each.Tie as tie
 use Rattle.fields.proofs.compare_each.Reads as reads
 use Rattle.fields.proofs.compare_each.Lts as lts
-use Rattle.pages.proofs.next_of.Reads as next-of-reads
-use Rattle.pages.proofs.read_byte.Reads as read-byte-reads
+use Rattle.lookup.proofs.next_of.Reads as next-of-reads
+use Rattle.lookup.proofs.read_byte.Reads as read-byte-reads
 
 abbrev Inv-loop : tie.InvT-loop
 Inv-loop mem map first second len a₀ b₀ left₀ a b left = compareField (framedOf mem map) first second len ≡ compareField (framedOf mem map) a b left

@@ -6,8 +6,8 @@ use Rattle.fields.proofs.compare_field.Reads as reads
 use Rattle.fields.proofs.compare_field.Lts as lts
 use Rattle.fields.proofs.compare_each.Reads as compare-each-reads
 use Rattle.fields.proofs.compare_flat.Reads as compare-flat-reads
-use Rattle.pages.proofs.is_compact.Reads as is-compact-reads
-use Rattle.pages.proofs.real_at.Reads as real-at-reads
+use Rattle.lookup.proofs.is_compact.Reads as is-compact-reads
+use Rattle.lookup.proofs.real_at.Reads as real-at-reads
 
 -- src/lib.rt:266:8
 is-compact-requires : tie.Need-is-compact-requires

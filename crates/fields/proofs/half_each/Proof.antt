@@ -4,8 +4,8 @@ use Rattle.fields.proofs.half_each.Statement.{statement}
 use Rattle.fields.proofs.half_each.Tie as tie
 use Rattle.fields.proofs.half_each.Reads as reads
 use Rattle.fields.proofs.half_each.Lts as lts
-use Rattle.pages.proofs.next_of.Reads as next-of-reads
-use Rattle.pages.proofs.read_byte.Reads as read-byte-reads
+use Rattle.lookup.proofs.next_of.Reads as next-of-reads
+use Rattle.lookup.proofs.read_byte.Reads as read-byte-reads
 
 read-byte-requires : tie.Need-read-byte-requires
 read-byte-requires c κs = search needs

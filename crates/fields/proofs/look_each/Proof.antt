@@ -13,8 +13,8 @@ use Rattle.fields.proofs.look_each.Tie as tie
 use Rattle.fields.proofs.look_each.Reads as reads
 use Rattle.fields.proofs.look_each.Lts as lts
 use Rattle.fields.proofs.look_first.Reads as look-first-reads
-use Rattle.pages.proofs.look_up.Reads as look-up-reads
-use Rattle.pages.proofs.next_of.Reads as next-of-reads
+use Rattle.lookup.proofs.look_up.Reads as look-up-reads
+use Rattle.lookup.proofs.next_of.Reads as next-of-reads
 
 abbrev Inv-loop : tie.InvT-loop
 Inv-loop map size fields found₀ k access at₀ left₀ found at left = (lookFields map size fields found₀ ≡ lookField map size access at left (lookFields map size (drop (k + 1) fields) found₀)) × (found ≡ found₀)

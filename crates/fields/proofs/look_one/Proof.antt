@@ -6,8 +6,8 @@ use Rattle.fields.proofs.look_one.Tie as tie
 use Rattle.fields.proofs.look_one.Reads as reads
 use Rattle.fields.proofs.look_one.Lts as lts
 use Rattle.fields.proofs.look_each.Reads as look-each-reads
-use Rattle.pages.proofs.is_compact.Reads as is-compact-reads
-use Rattle.pages.proofs.real_at.Reads as real-at-reads
+use Rattle.lookup.proofs.is_compact.Reads as is-compact-reads
+use Rattle.lookup.proofs.real_at.Reads as real-at-reads
 
 -- src/lib.rt:77:8
 is-compact-requires : tie.Need-is-compact-requires

@@ -5,8 +5,8 @@ use Rattle.fields.proofs.look_two.Tie as tie
 use Rattle.fields.proofs.look_two.Reads as reads
 use Rattle.fields.proofs.look_two.Lts as lts
 use Rattle.fields.proofs.look_each.Reads as look-each-reads
-use Rattle.pages.proofs.is_compact.Reads as is-compact-reads
-use Rattle.pages.proofs.real_at.Reads as real-at-reads
+use Rattle.lookup.proofs.is_compact.Reads as is-compact-reads
+use Rattle.lookup.proofs.real_at.Reads as real-at-reads
 
 -- src/lib.rt:65:8
 is-compact-requires : tie.Need-is-compact-requires

@@ -10,9 +10,9 @@ use Rattle.fields.proofs.move_each.Statement.{statement}
 use Rattle.fields.proofs.move_each.Tie as tie
 use Rattle.fields.proofs.move_each.Reads as reads
 use Rattle.fields.proofs.move_each.Lts as lts
-use Rattle.pages.proofs.next_of.Reads as next-of-reads
-use Rattle.pages.proofs.read_byte.Reads as read-byte-reads
-use Rattle.pages.proofs.write_byte.Reads as write-byte-reads
+use Rattle.lookup.proofs.next_of.Reads as next-of-reads
+use Rattle.lookup.proofs.read_byte.Reads as read-byte-reads
+use Rattle.lookup.proofs.write_byte.Reads as write-byte-reads
 
 abbrev Inv-loop : tie.InvT-loop
 Inv-loop mem₀ map₀ to from len a₀ b₀ left₀ mem map a b left = (moveField (framedOf mem₀ map₀) to from len ≡ moveField (framedOf mem map) a b left) × (length mem ≡ length mem₀) × (length map ≡ length map₀)

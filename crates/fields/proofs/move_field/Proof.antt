@@ -6,9 +6,9 @@ use Rattle.fields.proofs.move_field.Reads as reads
 use Rattle.fields.proofs.move_field.Lts as lts
 use Rattle.fields.proofs.move_each.Reads as move-each-reads
 use Rattle.fields.proofs.move_flat.Reads as move-flat-reads
-use Rattle.pages.proofs.is_compact.Reads as is-compact-reads
-use Rattle.pages.proofs.note_written.Reads as note-written-reads
-use Rattle.pages.proofs.real_at.Reads as real-at-reads
+use Rattle.lookup.proofs.is_compact.Reads as is-compact-reads
+use Rattle.lookup.proofs.note_written.Reads as note-written-reads
+use Rattle.lookup.proofs.real_at.Reads as real-at-reads
 
 -- src/lib.rt:218:8
 is-compact-requires : tie.Need-is-compact-requires

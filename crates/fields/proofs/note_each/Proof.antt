@@ -9,8 +9,8 @@ use Rattle.fields.proofs.note_each.Statement.{statement}
 use Rattle.fields.proofs.note_each.Tie as tie
 use Rattle.fields.proofs.note_each.Reads as reads
 use Rattle.fields.proofs.note_each.Lts as lts
-use Rattle.pages.proofs.next_of.Reads as next-of-reads
-use Rattle.pages.proofs.note.Reads as note-reads
+use Rattle.lookup.proofs.next_of.Reads as next-of-reads
+use Rattle.lookup.proofs.note.Reads as note-reads
 
 abbrev Inv-loop : tie.InvT-loop
 Inv-loop map₀ at len to₀ left₀ map to left = (noteField map₀ at len ≡ noteField map to left) × (length map ≡ length map₀)

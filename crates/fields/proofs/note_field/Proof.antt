@@ -6,7 +6,7 @@ use Rattle.fields.proofs.note_field.Reads as reads
 use Rattle.fields.proofs.note_field.Lts as lts
 use Rattle.fields.proofs.is_on_page.Reads as is-on-page-reads
 use Rattle.fields.proofs.note_each.Reads as note-each-reads
-use Rattle.pages.proofs.note.Reads as note-reads
+use Rattle.lookup.proofs.note.Reads as note-reads
 
 is-on-page-requires : tie.Need-is-on-page-requires
 is-on-page-requires c κs = search needs

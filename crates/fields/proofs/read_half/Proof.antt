@@ -6,8 +6,8 @@ use Rattle.fields.proofs.read_half.Reads as reads
 use Rattle.fields.proofs.read_half.Lts as lts
 use Rattle.fields.proofs.flat.half_of.Reads as half-of-reads
 use Rattle.fields.proofs.half_each.Reads as half-each-reads
-use Rattle.pages.proofs.is_compact.Reads as is-compact-reads
-use Rattle.pages.proofs.real_at.Reads as real-at-reads
+use Rattle.lookup.proofs.is_compact.Reads as is-compact-reads
+use Rattle.lookup.proofs.real_at.Reads as real-at-reads
 
 -- src/lib.rt:161:8
 is-compact-requires : tie.Need-is-compact-requires

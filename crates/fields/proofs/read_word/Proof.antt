@@ -6,8 +6,8 @@ use Rattle.fields.proofs.read_word.Reads as reads
 use Rattle.fields.proofs.read_word.Lts as lts
 use Rattle.fields.proofs.flat.word_of.Reads as word-of-reads
 use Rattle.fields.proofs.word_each.Reads as word-each-reads
-use Rattle.pages.proofs.is_compact.Reads as is-compact-reads
-use Rattle.pages.proofs.real_at.Reads as real-at-reads
+use Rattle.lookup.proofs.is_compact.Reads as is-compact-reads
+use Rattle.lookup.proofs.real_at.Reads as real-at-reads
 
 -- src/lib.rt:178:8
 is-compact-requires : tie.Need-is-compact-requires

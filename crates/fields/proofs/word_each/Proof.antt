@@ -5,7 +5,7 @@ use Rattle.fields.proofs.word_each.Tie as tie
 use Rattle.fields.proofs.word_each.Reads as reads
 use Rattle.fields.proofs.word_each.Lts as lts
 use Rattle.fields.proofs.half_each.Reads as half-each-reads
-use Rattle.pages.proofs.next_of.Reads as next-of-reads
+use Rattle.lookup.proofs.next_of.Reads as next-of-reads
 
 half-each-requires : tie.Need-half-each-requires
 half-each-requires c κs = search needs

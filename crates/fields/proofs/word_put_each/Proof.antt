@@ -5,7 +5,7 @@ use Rattle.fields.proofs.word_put_each.Tie as tie
 use Rattle.fields.proofs.word_put_each.Reads as reads
 use Rattle.fields.proofs.word_put_each.Lts as lts
 use Rattle.fields.proofs.write_half.Reads as write-half-reads
-use Rattle.pages.proofs.next_of.Reads as next-of-reads
+use Rattle.lookup.proofs.next_of.Reads as next-of-reads
 
 cast-write-half : tie.Need-cast-write-half
 cast-write-half c = search needs

@@ -5,8 +5,8 @@ use Rattle.fields.proofs.write_half.Statement.{statement}
 use Rattle.fields.proofs.write_half.Tie as tie
 use Rattle.fields.proofs.write_half.Reads as reads
 use Rattle.fields.proofs.write_half.Lts as lts
-use Rattle.pages.proofs.next_of.Reads as next-of-reads
-use Rattle.pages.proofs.write_byte.Reads as write-byte-reads
+use Rattle.lookup.proofs.next_of.Reads as next-of-reads
+use Rattle.lookup.proofs.write_byte.Reads as write-byte-reads
 
 cast-write-byte : tie.Need-cast-write-byte
 cast-write-byte c = search needs

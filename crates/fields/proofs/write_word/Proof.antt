@@ -6,9 +6,9 @@ use Rattle.fields.proofs.write_word.Reads as reads
 use Rattle.fields.proofs.write_word.Lts as lts
 use Rattle.fields.proofs.flat.put_word.Reads as put-word-reads
 use Rattle.fields.proofs.word_put_each.Reads as word-put-each-reads
-use Rattle.pages.proofs.is_compact.Reads as is-compact-reads
-use Rattle.pages.proofs.note_written.Reads as note-written-reads
-use Rattle.pages.proofs.real_at.Reads as real-at-reads
+use Rattle.lookup.proofs.is_compact.Reads as is-compact-reads
+use Rattle.lookup.proofs.note_written.Reads as note-written-reads
+use Rattle.lookup.proofs.real_at.Reads as real-at-reads
 
 -- src/lib.rt:206:8
 is-compact-requires : tie.Need-is-compact-requires

@@ -11,7 +11,7 @@ use Rattle.actions.proofs.registers.ahead_of.Reads as ahead-of-reads
 use Rattle.actions.proofs.registers.put_reg.Reads as put-reg-reads
 use Rattle.actions.proofs.registers.reg.Reads as reg-reads
 use Rattle.decode.proofs.split_rr.Reads as split-rr-reads
-use Rattle.words.proofs.combine.Reads as combine-reads
+use Rattle.arithmetic.proofs.combine.Reads as combine-reads
 
 -- src/rr.rt:17:9
 split-rr-requires : tie.Need-split-rr-requires

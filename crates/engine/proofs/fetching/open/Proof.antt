@@ -7,8 +7,8 @@ use Rattle.engine.proofs.fetching.open.Reads as reads
 use Rattle.engine.proofs.fetching.open.Lts as lts
 use Rattle.engine.proofs.fetching.is_seen.Reads as is-seen-reads
 use Rattle.engine.proofs.fetching.shut.Reads as shut-reads
-use Rattle.pages.proofs.is_compact.Reads as is-compact-reads
-use Rattle.pages.proofs.real_at.Reads as real-at-reads
+use Rattle.lookup.proofs.is_compact.Reads as is-compact-reads
+use Rattle.lookup.proofs.real_at.Reads as real-at-reads
 
 -- src/fetching.rt:50:17
 mul-first : tie.Need-mul-first

@@ -6,7 +6,7 @@ use Rattle.engine.proofs.formats.mark.Reads as reads
 use Rattle.engine.proofs.formats.mark.Lts as lts
 use Rattle.engine.proofs.formats.halves_of.Reads as halves-of-reads
 use Rattle.engine.proofs.formats.mark_halves.Reads as mark-halves-reads
-use Rattle.pages.proofs.note.Reads as note-reads
+use Rattle.lookup.proofs.note.Reads as note-reads
 
 enum-told : tie.Need-enum-told
 enum-told c = search needs

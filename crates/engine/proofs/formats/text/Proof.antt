@@ -6,8 +6,8 @@ use Rattle.engine.proofs.formats.text.Reads as reads
 use Rattle.engine.proofs.formats.text.Lts as lts
 use Rattle.engine.proofs.formats.text_each.Reads as text-each-reads
 use Rattle.fields.proofs.flat.half_of.Reads as half-of-reads
-use Rattle.pages.proofs.is_compact.Reads as is-compact-reads
-use Rattle.pages.proofs.real_at.Reads as real-at-reads
+use Rattle.lookup.proofs.is_compact.Reads as is-compact-reads
+use Rattle.lookup.proofs.real_at.Reads as real-at-reads
 
 is-compact-requires : tie.Need-is-compact-requires
 is-compact-requires c κs = search needs

@@ -6,7 +6,7 @@ use Rattle.rs_ss.proofs.rs.is_high.Tie as tie
 use Rattle.rs_ss.proofs.rs.is_high.Reads as reads
 use Rattle.rs_ss.proofs.rs.is_high.Lts as lts
 use Rattle.actions.proofs.registers.reg.Reads as reg-reads
-use Rattle.words.proofs.high.Reads as high-reads
+use Rattle.arithmetic.proofs.high.Reads as high-reads
 
 mul-reg : tie.Need-mul-reg
 mul-reg c = search needs

@@ -10,7 +10,7 @@ use Rattle.actions.proofs.registers.ahead_of.Reads as ahead-of-reads
 use Rattle.actions.proofs.registers.put_reg.Reads as put-reg-reads
 use Rattle.actions.proofs.registers.reg.Reads as reg-reads
 use Rattle.rs_ss.proofs.rs.operand_address.Reads as operand-address-reads
-use Rattle.words.proofs.shift_left.Reads as shift-left-reads
+use Rattle.arithmetic.proofs.shift_left.Reads as shift-left-reads
 
 operand-address-requires : tie.Need-operand-address-requires
 operand-address-requires c κs = search needs

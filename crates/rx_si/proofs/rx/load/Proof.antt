@@ -22,7 +22,7 @@ use Rattle.rx_si.proofs.rx.width_of.Reads as width-of-reads
 use Rattle.fields.proofs.bytes_of.Reads as bytes-of-reads
 use Rattle.fields.proofs.is_off.Reads as is-off-reads
 use Rattle.fields.proofs.look_one.Reads as look-one-reads
-use Rattle.pages.proofs.note.Reads as note-reads
+use Rattle.lookup.proofs.note.Reads as note-reads
 
 -- src/rx.rt:65:9
 operand-address-requires : tie.Need-operand-address-requires

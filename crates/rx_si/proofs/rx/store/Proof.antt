@@ -20,8 +20,8 @@ use Rattle.fields.proofs.bytes_of.Reads as bytes-of-reads
 use Rattle.fields.proofs.flat.put_field.Reads as put-field-reads
 use Rattle.fields.proofs.is_off.Reads as is-off-reads
 use Rattle.fields.proofs.look_one.Reads as look-one-reads
-use Rattle.pages.proofs.note.Reads as note-reads
-use Rattle.pages.proofs.note_written.Reads as note-written-reads
+use Rattle.lookup.proofs.note.Reads as note-reads
+use Rattle.lookup.proofs.note_written.Reads as note-written-reads
 
 -- src/rx.rt:89:9
 operand-address-requires : tie.Need-operand-address-requires

@@ -12,8 +12,8 @@ use Rattle.rx_si.proofs.rx.take.Lts as lts
 use Rattle.fields.proofs.flat.byte_of.Reads as byte-of-reads
 use Rattle.fields.proofs.flat.half_of.Reads as half-of-reads
 use Rattle.fields.proofs.flat.word_of.Reads as word-of-reads
-use Rattle.words.proofs.combine.Reads as combine-reads
-use Rattle.words.proofs.widen.Reads as widen-reads
+use Rattle.arithmetic.proofs.combine.Reads as combine-reads
+use Rattle.arithmetic.proofs.widen.Reads as widen-reads
 
 -- src/rx.rt:47:27
 enum-known-op : tie.Need-enum-known-op

@@ -16,10 +16,10 @@ use Rattle.rx_si.proofs.si.wide.Reads as wide-reads
 use Rattle.fields.proofs.flat.byte_of.Reads as byte-of-reads
 use Rattle.fields.proofs.flat.put_byte.Reads as put-byte-reads
 use Rattle.fields.proofs.look_one.Reads as look-one-reads
-use Rattle.pages.proofs.note.Reads as note-reads
-use Rattle.pages.proofs.note_written.Reads as note-written-reads
-use Rattle.words.proofs.logic_byte.Reads as logic-byte-reads
-use Rattle.words.proofs.zero_code.Reads as zero-code-reads
+use Rattle.lookup.proofs.note.Reads as note-reads
+use Rattle.lookup.proofs.note_written.Reads as note-written-reads
+use Rattle.arithmetic.proofs.logic_byte.Reads as logic-byte-reads
+use Rattle.arithmetic.proofs.zero_code.Reads as zero-code-reads
 
 -- src/si.rt:67:9
 operand-address-requires : tie.Need-operand-address-requires

@@ -15,8 +15,8 @@ use Rattle.rx_si.proofs.si.operand_address.Reads as operand-address-rea
 use Rattle.rx_si.proofs.si.wide.Reads as wide-reads
 use Rattle.fields.proofs.flat.byte_of.Reads as byte-of-reads
 use Rattle.fields.proofs.look_one.Reads as look-one-reads
-use Rattle.pages.proofs.note.Reads as note-reads
-use Rattle.words.proofs.compare_bits.Reads as compare-bits-reads
+use Rattle.lookup.proofs.note.Reads as note-reads
+use Rattle.arithmetic.proofs.compare_bits.Reads as compare-bits-reads
 
 -- src/si.rt:31:9
 operand-address-requires : tie.Need-operand-address-requires

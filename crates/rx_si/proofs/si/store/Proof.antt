@@ -14,8 +14,8 @@ use Rattle.actions.proofs.registers.ahead_of.Reads as ahead-of-reads
 use Rattle.rx_si.proofs.si.operand_address.Reads as operand-address-reads
 use Rattle.fields.proofs.flat.put_byte.Reads as put-byte-reads
 use Rattle.fields.proofs.look_one.Reads as look-one-reads
-use Rattle.pages.proofs.note.Reads as note-reads
-use Rattle.pages.proofs.note_written.Reads as note-written-reads
+use Rattle.lookup.proofs.note.Reads as note-reads
+use Rattle.lookup.proofs.note_written.Reads as note-written-reads
 
 -- src/si.rt:87:9
 operand-address-requires : tie.Need-operand-address-requires

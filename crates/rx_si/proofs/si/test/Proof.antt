@@ -14,8 +14,8 @@ use Rattle.actions.proofs.registers.ahead_of.Reads as ahead-of-reads
 use Rattle.rx_si.proofs.si.operand_address.Reads as operand-address-reads
 use Rattle.fields.proofs.flat.byte_of.Reads as byte-of-reads
 use Rattle.fields.proofs.look_one.Reads as look-one-reads
-use Rattle.pages.proofs.note.Reads as note-reads
-use Rattle.words.proofs.mask_code.Reads as mask-code-reads
+use Rattle.lookup.proofs.note.Reads as note-reads
+use Rattle.arithmetic.proofs.mask_code.Reads as mask-code-reads
 
 -- src/si.rt:49:9
 operand-address-requires : tie.Need-operand-address-requires

@@ -1,0 +1,19 @@
+use Rattle.arithmetic.proofs.Lifted.{size-low, size-high}
+use borrow.Author.Needs.{needs}
+use Rattle.arithmetic.proofs.signed.magnitude_of.Statement.{statement}
+use Rattle.arithmetic.proofs.signed.magnitude_of.Tie as tie
+
+sub-result : tie.Need-sub-result
+sub-result c = search needs
+
+add-result : tie.Need-add-result
+add-result c = search needs
+
+returns : tie.Need-returns
+returns c = search (size-low, needs)
+
+returns-2 : tie.Need-returns-2
+returns-2 c = search (size-high, needs)
+
+pub magnitude-of-spec : {M : Type 1} → statement M
+magnitude-of-spec = tie.close (tie.spec sub-result add-result returns returns-2)
