@@ -15,8 +15,10 @@ use Rattle.printing.specs.declared.Text.{Text}
 use Rattle.printing.specs.Answer.{textOf}
 use Rattle.printing.specs.Writing.{Spot, spot, wrote}
 use Rattle.printing.proofs.WrittenText.{wrote-sets}
-use Rattle.sheet.specs.Sheet.{answerOf}
-use Rattle.outer.specs.Crossing.{Crossed, crossed, six, lent, handedBack, readOff, stepCrossed, StepMeets, runCrossed, RunMeets, sheetCrossed}
+use Rattle.reading.specs.Setting.{Setting}
+use Rattle.reading.specs.Sheet.{Reading, good, readingOf}
+use Rattle.sheet.specs.Sheet.{machineOf, printed, answerTo, answerOf}
+use Rattle.outer.specs.Crossing.{Crossed, crossed, six, lent, handedBack, readOff, stepCrossed, StepMeets, runCrossed, RunMeets, sheetCrossed, SheetMeets}
 
 -- six stores into six places
 all-six : (l : List ℕ) (a b c d e f : ℕ) → length l ≡ 6 → set (set (set (set (set (set l 0 a) 1 b) 2 c) 3 d) 4 e) 5 f ≡ a ∷ b ∷ c ∷ d ∷ e ∷ f ∷ []
@@ -133,3 +135,24 @@ module _ (sheet room : List ℕ) where
     where
       text : List ℕ → ℕ → Text
       text b n = record { bytes = b; len = n }
+
+  -- a good sheet's answer is the text of its run's outcome; so demands 1 and 3 hold of what it tells
+  pub sheet-meets : (room′ : List ℕ) (n : ℕ) → record { bytes = room′; len = n } ≡ sheetCrossed sheet room
+      → (record { bytes = room′; len = n } ≡ sheetCrossed sheet room)
+      × (length room ≡ 8192 → (h : Setting) → readingOf sheet ≡ good h → SheetMeets h (record { bytes = room′; len = n }))
+  sheet-meets room′ n e = (
+    e,
+    λ l h g.
+        let o : Outcome = runOutcome (h .budget) (machineOf h) in
+        record {
+          from = o;
+          meets = record { clean = run-clean (h .budget) (machineOf h) o refl; pages = run-pages (h .budget) (machineOf h) o refl };
+          text = e ∙ told l ∙ ap textOf (answered h g);
+        },
+  )
+    where
+      told : length room ≡ 8192 → sheetCrossed sheet room ≡ textOf (answerOf sheet)
+      told l = unfold sheetCrossed in rw (eq-eqb (length room) 8192 l)
+
+      answered : (h : Setting) → readingOf sheet ≡ good h → answerOf sheet ≡ printed (h .map) (runOutcome (h .budget) (machineOf h))
+      answered h g = unfold answerOf in ap answerTo g

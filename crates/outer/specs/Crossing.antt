@@ -1,5 +1,6 @@
 -- What the caller of a linked function has afterwards: the function's own number, and the lists that it lent.
 use Prim.Native.Nat.{ℕ}
+use mathlib.Core.Path.{_≡_}
 use mathlib.Core.List.{List, [], _∷_}
 use lib.Dec.{eqb}
 use lib.ListN.{length, getD}
@@ -11,7 +12,8 @@ use Rattle.demand.specs.DemandOne.{CleanStep, CleanRun}
 use Rattle.demand.specs.DemandThree.{PagesKeep}
 use Rattle.printing.specs.declared.Text.{Text}
 use Rattle.printing.specs.Answer.{textOf}
-use Rattle.sheet.specs.Sheet.{answerOf}
+use Rattle.reading.specs.Setting.{Setting}
+use Rattle.sheet.specs.Sheet.{machineOf, printed, answerOf}
 
 -- the version of these functions, 0.3.0, as one number: major × 65,536 + minor × 256 + patch
 abbrev pub version : ℕ
@@ -77,3 +79,9 @@ pub record RunMeets (budget : ℕ) (g : Given) (o : Outcome) : Type 0 where
 unfoldable pub sheetCrossed : List ℕ → List ℕ → Text
 sheetCrossed sheet room =
     pick (eqb (length room) 8192) (textOf (answerOf sheet)) (record { bytes = room; len = 0 })
+
+-- Demands 1 and 3 of a good sheet's answer: it is the text of an outcome of which both hold. h is what the sheet sets.
+pub record SheetMeets (h : Setting) (t : Text) : Type 0 where
+  pub from : Outcome
+  pub meets : RunMeets (h .budget) (machineOf h) from
+  pub text : t ≡ textOf (printed (h .map) from)

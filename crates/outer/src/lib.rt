@@ -4,7 +4,9 @@ ghost use mathlib.Core.Path.{_≡_};
 ghost use lib.Dec.{eqb};
 ghost use lib.ListN.{length};
 ghost use Rattle.words.specs.Pick.{pick};
-ghost use Rattle.outer.specs.Crossing.{version, crossed, six, lent, readOff, stepCrossed, StepMeets, runCrossed, RunMeets, sheetCrossed};
+ghost use Rattle.outer.specs.Crossing.{version, crossed, six, lent, readOff, stepCrossed, StepMeets, runCrossed, RunMeets, sheetCrossed, SheetMeets};
+ghost use Rattle.reading.specs.Setting.{Setting};
+ghost use Rattle.reading.specs.Sheet.{good, readingOf};
 
 // The version of these functions, as one number: major × 65,536 + minor × 256 + patch.
 #[no_mangle]
@@ -71,7 +73,8 @@ pub extern "C" fn spectra46_run(
 // A sheet's answer into a room of 8,192 bytes, and its length; 0 where the room has another size.
 #[no_mangle]
 pub extern "C" fn spectra46_sheet(sheet: &[u8], room: &mut [u8]) -> usize
-    ensures { λ r. ⌜ record { bytes = now (room .exit); len = r } ≡ sheetCrossed (now (sheet .entry)) (now (room .entry)) ⌝ }
+    ensures whole { λ r. ⌜ record { bytes = now (room .exit); len = r } ≡ sheetCrossed (now (sheet .entry)) (now (room .entry)) ⌝ }
+    ensures demands { λ r. ⌜ (length (now (room .entry)) ≡ 8192 → (h : Setting) → readingOf (now (sheet .entry)) ≡ good h → SheetMeets h (record { bytes = now (room .exit); len = r })) ⌝ }
 {
     if room.len() != 8192 {
         return 0;

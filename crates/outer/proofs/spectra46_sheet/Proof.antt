@@ -1,4 +1,4 @@
-use Rattle.outer.proofs.Crossings.{room-away, room-filled}
+use Rattle.outer.proofs.Crossings.{room-away, room-filled, sheet-meets}
 use borrow.Author.Needs.{needs}
 use Rattle.outer.proofs.spectra46_sheet.Statement.{statement}
 use Rattle.outer.proofs.spectra46_sheet.Tie as tie
@@ -8,7 +8,7 @@ use Rattle.printing.proofs.writing.put_all.Reads as put-all-reads
 use Rattle.sheet.proofs.answer.Reads as answer-reads
 
 returns : tie.Need-returns
-returns c = search room-away
+returns c = sheet-meets _ _ _ _ (search room-away)
 
 answer-requires : tie.Need-answer-requires
 answer-requires c κs = search needs
@@ -23,7 +23,7 @@ same-length : tie.Need-same-length
 same-length c = search needs
 
 returns-2 : tie.Need-returns-2
-returns-2 c = search (room-filled, needs)
+returns-2 c = sheet-meets _ _ _ _ (search (room-filled, needs))
 
 pub spectra46-sheet-spec : {M : Type 1} → statement M
 spectra46-sheet-spec =
