@@ -202,12 +202,12 @@ module _ (w : Window) (mem map : List ℕ) (ready : Ready w map (length mem)) (p
 pub shut-ready : (w : Window) (map : List ℕ) (size : ℕ) → w .len ≡ 0 → Ready w map size
 shut-ready w map size e = λ l. absurd (omega arith)
 
-pub open-ready : (map : List ℕ) (size page first : ℕ) (s b : Bool) (r : ℕ) → first ≡ page * 4096
+pub open-ready : (map : List ℕ) (size page first len : ℕ) (s b : Bool) (r : ℕ) → first ≡ page * 4096 → len ≤ 4091
     → s ≡ eqb (bitG (wordOf map page)) 1 → s ≡ true → b ≡ compact map size Fetch first 4096 → b ≡ true → r ≡ realOf map first → r < 266240
-    → Ready (record { first = first; len = 4091; base = r }) map size
+    → Ready (record { first = first; len = len; base = r }) map size
 unfolding compact
-open-ready map size page first s b r ef es ts eb tb er sm =
-    λ l. (low, omega (arith, ef), omega arith, record { fair = ordinarily; seen = ap (λ (x : ℕ). bitG (wordOf map x)) at-page ∙ eqb-true (bitG (wordOf map page)) 1 (sym es ∙ ts); there = stands; room = fitting; small = sm })
+open-ready map size page first len s b r ef short es ts eb tb er sm =
+    λ l. (low, omega (arith, ef), short, record { fair = ordinarily; seen = ap (λ (x : ℕ). bitG (wordOf map x)) at-page ∙ eqb-true (bitG (wordOf map page)) 1 (sym es ∙ ts); there = stands; room = fitting; small = sm })
   where
     p-2 : both (ltb first 2097152) (both (leb (first % 4096 + 4096) 4096) (both (ordinary (wordOf map (pageOf first)) Fetch) (leb (realOf map first + 4096) size))) ≡ true
     p-2 = right-of (ltb 0 4096) (both (ltb first 2097152) (both (leb (first % 4096 + 4096) 4096) (both (ordinary (wordOf map (pageOf first)) Fetch) (leb (realOf map first + 4096) size)))) (sym eb ∙ tb)

@@ -1,3 +1,4 @@
+use native.Mathlib.Omega.{arith}
 use Rattle.engine.proofs.Windows.{open-ready, shut-ready}
 use mathlib.Core.Path.{refl}
 use borrow.Author.Needs.{needs}
@@ -28,7 +29,7 @@ real-at-requires c κs = search needs
 
 -- src/fetching.rt:53:13
 returns : tie.Need-returns
-returns c = open-ready _ _ _ _ _ _ _ refl (c .before .before .before .before .is-seen .ensures) (c .before .before .before .if1 .taken) (c .before .before .is-compact .ensures) (c .before .if2 .taken) ((c .real-at .ensures) .0) ((c .real-at .ensures) .1)
+returns c = open-ready _ _ _ _ _ _ _ _ refl (omega arith) (c .before .before .before .before .is-seen .ensures) (c .before .before .before .if1 .taken) (c .before .before .is-compact .ensures) (c .before .if2 .taken) ((c .real-at .ensures) .0) ((c .real-at .ensures) .1)
 
 -- src/fetching.rt:60:5
 shut-requires : tie.Need-shut-requires
