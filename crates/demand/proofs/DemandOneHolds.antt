@@ -8,6 +8,7 @@ use borrow.Author.Tests.{eqb-true, leb-true, ltb-true, eq-eqb, le-leb, lt-ltb}
 use lib.Dec.{eqb, leb, ltb}
 use lib.ListN.{length, length-set}
 use Rattle.words.specs.Pick.{pick, both}
+use Rattle.words.proofs.Tests.{both-true}
 use Rattle.pages.specs.Word.{pageOf}
 use Rattle.pages.specs.Framed.{Framed, accessedAt, writtenAt}
 use Rattle.machine.specs.Prog.{Answer, finished, refused, interp}
@@ -22,10 +23,6 @@ use Rattle.demand.proofs.KeptByRuns.{Keeps, run-keeps, step-keeps, writ
 use Rattle.demand.proofs.RunsInParts.{count-most}
 
 -- what number 6 asks of the three lists and the state, one by one
-both-true : (t u : Bool) → both t u ≡ true → (t ≡ true) × (u ≡ true)
-both-true true u e = (refl, e)
-both-true false u e = absurd (let z : _≡_ {A = ℕ} 0 1 = cc in omega arith)
-
 true-both : (t u : Bool) → t ≡ true → u ≡ true → both t u ≡ true
 true-both t u e f = rw e f
 

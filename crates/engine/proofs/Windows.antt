@@ -20,7 +20,7 @@ use Rattle.pages.specs.Tests.{Verdict, fine, bad}
 use Rattle.pages.specs.Look.{verdictOf}
 use Rattle.pages.specs.Framed.{Framed, framedOf, accessedAt, writtenAt, lookIn, noted, readByte, writeByte, writeAt}
 use Rattle.pages.specs.Compact.{ordinary, compact, realOf}
-use Rattle.pages.proofs.CompactLaws.{left-of, right-of}
+use Rattle.words.proofs.Tests.{left-of, right-of}
 use Rattle.pages.proofs.Marks.{Quiet, changed, accessed-quiet, written-quiet, base-quiet, accessed-old}
 use Rattle.machine.specs.Prog.{Prog, done, fail, look, get, put, Answer, finished, refused, after, interp}
 use Rattle.machine.specs.Store.{framed}

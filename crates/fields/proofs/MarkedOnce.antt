@@ -14,7 +14,7 @@ use Rattle.words.specs.Pick.{both}
 use Rattle.pages.specs.Word.{pageOf, next, wordOf, accessed, written}
 use Rattle.pages.specs.Framed.{accessedAt, writtenAt}
 use Rattle.pages.proofs.Marks.{changed}
-use Rattle.pages.proofs.CompactLaws.{left-of, right-of}
+use Rattle.words.proofs.Tests.{left-of, right-of}
 use Rattle.fields.specs.Direct.{onPage, noteField}
 
 -- a mark on a page, twice, is the mark once

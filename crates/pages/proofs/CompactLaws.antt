@@ -6,6 +6,7 @@ use mathlib.Core.Bool.{Bool, true, false, not}
 use mathlib.Core.List.{List}
 use borrow.Author.Tests.{ltb-true, leb-true, eqb-true, lt-ltb, le-ltb, le-leb, lt-leb, eq-eqb, ne-eqb}
 use lib.Dec.{eqb, leb, ltb}
+use Rattle.words.proofs.Tests.{left-of, right-of}
 use Rattle.words.specs.Pick.{both}
 use Rattle.pages.specs.declared.Access.{Access}
 use Rattle.pages.specs.declared.Look.{Look}
@@ -15,14 +16,6 @@ use Rattle.pages.specs.Tests.{isStore}
 use Rattle.pages.specs.Look.{lookOf}
 use Rattle.pages.specs.Compact.{realOf, ordinary, compact}
 use Rattle.pages.proofs.LookLaws.{look-7}
-
-pub left-of : (a b : Bool) → both a b ≡ true → a ≡ true
-left-of true b e = refl
-left-of false b e = e
-
-pub right-of : (a b : Bool) → both a b ≡ true → b ≡ true
-right-of true b e = e
-right-of false b e = absurd (let z : _≡_ {A = ℕ} 0 1 = cc in omega arith)
 
 -- a byte of an ordinary page
 module _ (map : List ℕ) (n : ℕ) (acc : Access) (a w : ℕ) (h : a < 2097152) (ew : w ≡ wordOf map (pageOf a)) (o : ordinary w acc ≡ true) where

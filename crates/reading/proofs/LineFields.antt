@@ -16,7 +16,7 @@ use Rattle.reading.specs.declared.digits.Num.the-variants.{Got, No}
 use Rattle.reading.specs.declared.line.Line as Code
 use Rattle.reading.specs.Within.{Says}
 use Rattle.reading.proofs.Numbers.{decimalTold, hexTold, hex-below}
-use Rattle.reading.proofs.Tests.{both-true}
+use Rattle.words.proofs.Tests.{both-true}
 
 -- ---- a field that was read
 told-no : (t : Bool) (v : ℕ) (r : Num) → r ≡ pick t (Got v) No → r ≡ No → t ≡ false

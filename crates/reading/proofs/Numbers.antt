@@ -14,7 +14,7 @@ use Rattle.words.specs.Pick.{pick, both}
 use Rattle.reading.specs.Digits.{digitOf, allDigits, valueAfter, valueOf, noLeadingZero, isDecimal, isHex, isBytes}
 use Rattle.reading.specs.declared.digits.Num.{Num}
 use Rattle.reading.specs.declared.digits.Num.the-variants.{Got, No}
-use Rattle.reading.proofs.Tests.{both-true, pick-false}
+use Rattle.words.proofs.Tests.{both-true, pick-false}
 
 -- ---- a digit
 module _ (b : ℕ) where

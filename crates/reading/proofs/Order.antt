@@ -16,7 +16,7 @@ use Rattle.reading.specs.Order.{each, nearest, abovePage, aboveBytes, ab
 use Rattle.reading.specs.Setting.{Setting}
 use Rattle.reading.specs.Sheet.{good, badAt, linesFrom, setBy, readBelow}
 use Rattle.reading.specs.Within.{State, goesOn, stateAfter, Left, left, leftBad, readLines}
-use Rattle.reading.proofs.Tests.{both-true}
+use Rattle.words.proofs.Tests.{both-true}
 use Rattle.reading.proofs.Ranges.{InRange, in-range}
 
 -- ---- the state is what the lines above say

@@ -10,7 +10,7 @@ use borrow.Author.Tests.{leb-true}
 use Rattle.words.specs.Pick.{pick, both}
 use Rattle.reading.specs.Digits.{valueOf, allDigits, noLeadingZero, isDecimal, isHex, isBytes, pairsOf}
 use Rattle.reading.specs.Line.{Line, page, bytes, reg, start, run, wrong, PAGE, BYTES, REG, START, RUN, same, first, others, readEntry, readBytes, readStart, readRun, lineOf}
-use Rattle.reading.proofs.Tests.{both-true}
+use Rattle.words.proofs.Tests.{both-true}
 
 abbrev pub InRange : Line → Type 0
 InRange (page n w) = n < 512

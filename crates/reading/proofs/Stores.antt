@@ -13,7 +13,7 @@ use borrow.Author.Tests.{ltb-true, ne-eqb}
 use Rattle.words.specs.Pick.{pick}
 use Rattle.reading.specs.Digits.{digitOf, allDigits, pairsOf}
 use Rattle.reading.proofs.Numbers.{digits-at}
-use Rattle.reading.proofs.Tests.{both-true}
+use Rattle.words.proofs.Tests.{both-true}
 
 module _ (s : List ℕ) (i : ℕ) (a : allDigits 16 (drop i s) ≡ true) (h : i < length s) where
   halves : (ltb (digitOf (getD s i 0)) 16 ≡ true) × (allDigits 16 (drop (i + 1) s) ≡ true)
