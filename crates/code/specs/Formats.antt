@@ -7,6 +7,16 @@ use Rattle.code.specs.declared.RxFields.{RxFields}
 use Rattle.code.specs.declared.RsFields.{RsFields}
 use Rattle.code.specs.declared.SiFields.{SiFields}
 use Rattle.code.specs.declared.SsFields.{SsFields}
+use Rattle.code.specs.declared.Action.{Action}
+use Rattle.code.specs.declared.Action.the-variants.{Rr, Rx, Rs, Si, Ss}
+
+-- how many bytes an instruction has, by its format
+abbrev pub lengthOf : Action → ℕ
+lengthOf (Rr x) = 2
+lengthOf (Rx x) = 4
+lengthOf (Rs x) = 4
+lengthOf (Si x) = 4
+lengthOf (Ss x) = 6
 
 -- the operation code, and the fields of the first halfword's right byte
 abbrev pub opOf : ℕ → ℕ

@@ -6,6 +6,7 @@ use mathlib.Core.List.{List, [], _∷_}
 use lib.Dec.{eqb}
 use Rattle.words.specs.Pick.{pick}
 use Rattle.words.specs.Said.{Said, says}
+use Rattle.words.specs.Ascii.{ascii}
 use Rattle.words.specs.declared.Alu.the-variants.{Load, Test, Complement, Positive, Negative, Add, Subtract, Compare, AddLogical, SubtractLogical, CompareLogical, Bits}
 use Rattle.words.specs.declared.Logic.the-variants.{And, Or, Xor}
 use Rattle.code.specs.declared.Operand.the-variants.{WordWith, HalfSpread, ByteInserted}
@@ -94,6 +95,14 @@ find (r ∷ rs) k = pick (eqb k (r .code)) (Known (r .action)) (find rs k)
 
 unfoldable pub actionOf : ℕ → Found
 actionOf k = find table k
+
+-- the name of the first row with this code; none where no row has it
+abbrev pub named : List Row → ℕ → String
+named [] k = ""
+named (r ∷ rs) k = pick (eqb k (r .code)) (r .name) (named rs k)
+
+unfoldable pub nameOf : ℕ → List ℕ
+nameOf k = ascii (named table k)
 
 -- the enum's cases in document 01's terms: the action, or number 5
 abbrev pub foundSays : Found → Said (List Action)

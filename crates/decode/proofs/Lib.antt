@@ -1,1 +1,2 @@
 mod Decoding
+pub mod Grid

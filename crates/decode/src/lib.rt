@@ -16,9 +16,12 @@ use code::SsFields;
 use code::Width;
 use words::Alu;
 use words::Logic;
+
+pub mod names; // names.rt: the names, by code
+
 ghost use mathlib.Core.Path.{_≡_};
 ghost use Rattle.code.specs.Table.{actionOf};
-ghost use Rattle.code.specs.Formats.{rrOf, rxOf, rsOf, siOf, ssOf};
+ghost use Rattle.code.specs.Formats.{lengthOf, rrOf, rxOf, rsOf, siOf, ssOf};
 
 pub fn split_rr(h1: u16) -> RrFields
     ensures { λ r. ⌜ r ≡ rrOf h1 ⌝ }
@@ -133,5 +136,18 @@ pub fn action_of(op: u8) -> Found
         0x86 => Found::Known(Action::Rs(RsAction::BranchHigh)), // BXH
         0x87 => Found::Known(Action::Rs(RsAction::BranchLowEqual)), // BXLE
         _ => Found::Unknown,
+    }
+}
+
+// How many bytes an instruction has.
+pub fn length_of(action: Action) -> usize
+    ensures { λ r. ⌜ r ≡ lengthOf action ⌝ }
+{
+    match action {
+        Action::Rr(_) => 2,
+        Action::Rx(_) => 4,
+        Action::Rs(_) => 4,
+        Action::Si(_) => 4,
+        Action::Ss(_) => 6,
     }
 }

@@ -1,6 +1,6 @@
 -- For the engine's inner functions: an instruction's halfwords, what the action does with them, the marks that it sets where it completes,
 -- and the answers of a step and a run.
-use Prim.Native.Nat.{ℕ, _+_, _-_, _%_, _<_, _≤_}
+use Prim.Native.Nat.{ℕ, _+_, _-_, _/_, _%_, _<_, _≤_}
 use mathlib.Core.Path.{_≡_}
 use mathlib.Core.List.{List, [], _∷_}
 use mathlib.Core.Bool.{Bool, true}
@@ -19,7 +19,7 @@ use Rattle.code.specs.declared.Action.the-variants.{Rr, Rx, Rs, Si, Ss}
 use Rattle.code.specs.declared.Found.{Found}
 use Rattle.code.specs.declared.Found.the-variants.{Known, Unknown}
 use Rattle.code.specs.Table.{actionOf}
-use Rattle.code.specs.Formats.{opOf, rrOf, rxOf, rsOf, siOf, ssOf}
+use Rattle.code.specs.Formats.{opOf, lengthOf, rrOf, rxOf, rsOf, siOf, ssOf}
 use Rattle.fields.specs.Direct.{lookOne, noteField, readField}
 use Rattle.machine.specs.declared.Reply.{Reply}
 use Rattle.machine.specs.Prog.{Prog, fail}
@@ -51,11 +51,7 @@ past pc n = (pc + n) % 16777216
 -- how many halfwords are fetched: of an operation that is not known, the first only
 abbrev pub halves : Found → ℕ
 halves Unknown = 1
-halves (Known (Rr x)) = 1
-halves (Known (Rx x)) = 2
-halves (Known (Rs x)) = 2
-halves (Known (Si x)) = 2
-halves (Known (Ss x)) = 3
+halves (Known x) = lengthOf x / 2
 
 abbrev pub halvesOf : ℕ → ℕ
 halvesOf h1 = halves (actionOf (opOf h1))

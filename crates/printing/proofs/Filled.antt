@@ -12,7 +12,7 @@ use Rattle.printing.specs.Writing.{Spot, spot, wrote}
 use Rattle.printing.proofs.WrittenText.{wrote-sets}
 
 -- m zeros
-abbrev zeros : ℕ → List ℕ
+abbrev pub zeros : ℕ → List ℕ
 zeros m = replicate m 0
 
 drop-zeros : (n m : ℕ) → n ≤ m → drop n (zeros m) ≡ zeros (m - n)
@@ -22,7 +22,7 @@ drop-zeros (suc n) (suc m) h =
     let k : n ≤ m = omega arith in
     rw suc-sub-suc (drop-zeros n m k)
 
-whole : (m : ℕ) (l : List ℕ) → length l ≤ m → wrote (spot (zeros m) 0) l ≡ spot (l ++ zeros (m - length l)) (length l)
+pub whole : (m : ℕ) (l : List ℕ) → length l ≤ m → wrote (spot (zeros m) 0) l ≡ spot (l ++ zeros (m - length l)) (length l)
 whole m l h =
     wrote-sets (zeros m) 0 l fits
     ∙ ap (λ (b : List ℕ). spot b (0 + length l)) (sets-eq l (zeros m) 0 fits)

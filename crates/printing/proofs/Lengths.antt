@@ -33,7 +33,7 @@ unfolding decimalOf
 decimal-long v = subst (λ (n : ℕ). length (trimmed (digitsOf 10 10 v)) ≤ n) (digits-long 10 10 v) (bare-long (digitsOf 10 10 v))
 
 -- n + 1 digits hold v, so the k before them are zeros
-short : (k n v : ℕ) → v < 10 ^ suc n → length (trimmed (digitsOf 10 (suc (k + n)) v)) ≤ suc n
+pub short : (k n v : ℕ) → v < 10 ^ suc n → length (trimmed (digitsOf 10 (suc (k + n)) v)) ≤ suc n
 short zero n v h =
     rw zero-add (subst (λ (m : ℕ). length (trimmed (digitsOf 10 (suc n) v)) ≤ m) (digits-long 10 (suc n) v) (bare-long (digitsOf 10 (suc n) v)))
 short (suc k) n v h = rw (suc-add, skip v (k + n) zeros) (short k n v h)

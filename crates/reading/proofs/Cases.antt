@@ -6,10 +6,10 @@ use Prim.Native.Nat.{ℕ, suc}
 use Prim.Native.String.{String}
 use lib.Dec.{eqb}
 use lib.ListN.{getD, take, drop, replicate}
-use Rattle.words.specs.Ascii.{ascii}
+use Rattle.words.specs.Ascii.{ascii, same}
 use Rattle.reading.specs.Cut.{span, before, after, count}
 use Rattle.reading.specs.Digits.{digitOf, allDigits, valueAfter, noLeadingZero, isDecimal, isHex, isBytes, pairsOf}
-use Rattle.reading.specs.Line.{same, readEntry, readBytes, readStart, readRun, lineOf}
+use Rattle.reading.specs.Line.{readEntry, readBytes, readStart, readRun, lineOf}
 use Rattle.reading.specs.Order.{each, nearest, mayStand}
 use Rattle.reading.specs.Sheet.{Reading, bad, good, linesFrom, setBy, readBelow, readOnto, readingOf}
 

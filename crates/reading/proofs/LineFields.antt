@@ -8,9 +8,10 @@ use lib.Dec.{eqb, leb}
 use lib.ListN.{length}
 use borrow.Author.Tests.{le-leb, lt-leb}
 use Rattle.words.specs.Pick.{pick, both}
+use Rattle.words.specs.Ascii.{same}
 use Rattle.reading.specs.Cut.{before, after}
 use Rattle.reading.specs.Digits.{valueOf, allDigits, isDecimal, isHex, isBytes, pairsOf}
-use Rattle.reading.specs.Line.{Line, bytes, start, run, wrong, PAGE, BYTES, REG, START, RUN, same, readEntry, readPage, readBytes, readReg, readStart, readRun, lineOf}
+use Rattle.reading.specs.Line.{Line, bytes, start, run, wrong, PAGE, BYTES, REG, START, RUN, readEntry, readPage, readBytes, readReg, readStart, readRun, lineOf}
 use Rattle.reading.specs.declared.digits.Num.{Num}
 use Rattle.reading.specs.declared.digits.Num.the-variants.{Got, No}
 use Rattle.reading.specs.declared.line.Line as Code

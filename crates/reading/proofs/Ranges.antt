@@ -8,8 +8,9 @@ use lib.Dec.{leb}
 use lib.ListN.{length}
 use borrow.Author.Tests.{leb-true}
 use Rattle.words.specs.Pick.{pick, both}
+use Rattle.words.specs.Ascii.{same}
 use Rattle.reading.specs.Digits.{valueOf, allDigits, noLeadingZero, isDecimal, isHex, isBytes, pairsOf}
-use Rattle.reading.specs.Line.{Line, page, bytes, reg, start, run, wrong, PAGE, BYTES, REG, START, RUN, same, first, others, readEntry, readBytes, readStart, readRun, lineOf}
+use Rattle.reading.specs.Line.{Line, page, bytes, reg, start, run, wrong, PAGE, BYTES, REG, START, RUN, first, others, readEntry, readBytes, readStart, readRun, lineOf}
 use Rattle.words.proofs.Tests.{both-true}
 
 abbrev pub InRange : Line → Type 0

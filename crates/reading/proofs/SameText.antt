@@ -7,7 +7,7 @@ use native.Mathlib.Numerals.{add-one}
 use lib.ListN.{length, getD, drop, drop-of-length-le}
 use lib.Seq.{drop-cons}
 use borrow.Author.Tests.{eq-eqb, ne-eqb}
-use Rattle.reading.specs.Line.{same}
+use Rattle.words.specs.Ascii.{same}
 
 module _ (a b : List ℕ) (i : ℕ) (inv : same a b ≡ same (drop i a) (drop i b)) where
   pub same-done : length a ≤ i → length b ≤ i → true ≡ same a b

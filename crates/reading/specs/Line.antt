@@ -1,11 +1,10 @@
 -- One line of a sheet, without its line end: what it says, or that it is misformed or has a value out of range.
-use mathlib.Core.Bool.{Bool, true, false}
-use mathlib.Core.List.{List, [], _∷_}
+use mathlib.Core.List.{List}
 use Prim.Native.Nat.{ℕ, _+_, _/_}
-use lib.Dec.{eqb, leb}
+use lib.Dec.{leb}
 use lib.ListN.{length}
 use Rattle.words.specs.Pick.{pick, both}
-use Rattle.words.specs.Ascii.{ascii}
+use Rattle.words.specs.Ascii.{ascii, same}
 use Rattle.reading.specs.Cut.{tab, before, after}
 use Rattle.reading.specs.Digits.{valueOf, isDecimal, isHex, isBytes, pairsOf}
 
@@ -17,13 +16,6 @@ pub data Line : Type 0 where
   start : ℕ → ℕ → ℕ → Line
   run : ℕ → Line
   wrong : Line
-
--- the same bytes
-unfoldable pub same : List ℕ → List ℕ → Bool
-same [] [] = true
-same [] (b ∷ bs) = false
-same (a ∷ cs) [] = false
-same (a ∷ cs) (b ∷ bs) = both (eqb a b) (same cs bs)
 
 -- a text's first field, and what stands after the tab behind it
 abbrev pub first : List ℕ → List ℕ

@@ -1,7 +1,8 @@
-// A text cut at a mark.
+// A text cut at a mark; two texts compared.
 ghost use mathlib.Core.Path.{_≡_};
 ghost use Prim.Native.Nat.{_≤_};
 ghost use lib.ListN.{length};
+ghost use Rattle.words.specs.Ascii.{same};
 ghost use Rattle.reading.specs.Cut.{span, before, after};
 
 // How many bytes stand before the first mark.
@@ -35,4 +36,24 @@ pub fn back(s: &[u8], mark: u8) -> &[u8]
         return &s[a..];
     }
     &s[e..]
+}
+
+// Whether two texts have the same bytes.
+pub fn equal(a: &[u8], b: &[u8]) -> bool
+    ensures { λ r. ⌜ r ≡ same (now (a .entry)) (now (b .entry)) ⌝ }
+{
+    let mut i = 0;
+    while i < a.len() {
+        if i >= b.len() {
+            return false;
+        }
+        if a[i] != b[i] {
+            return false;
+        }
+        i += 1;
+    }
+    if i < b.len() {
+        return false;
+    }
+    true
 }

@@ -1,6 +1,6 @@
 // The bench sheet, from its bytes to the machine's setting.
-mod cut;
-mod digits;
+pub mod cut; // cut.rt: a text cut at a mark; two texts compared
+pub mod digits; // digits.rt: numbers
 mod line;
 mod sheet;
 mod store;

@@ -1,33 +1,14 @@
 // One line of a sheet.
 ghost use mathlib.Core.Path.{_≡_};
-ghost use Rattle.reading.specs.Line.{same, lineOf, readPage, readBytes, readReg, readStart, readRun, others};
+ghost use Rattle.reading.specs.Line.{lineOf, readPage, readBytes, readReg, readStart, readRun, others};
 ghost use Rattle.reading.specs.Within.{Says};
 use crate::cut::back;
+use crate::cut::equal;
 use crate::cut::front;
 use crate::digits::Num;
 use crate::digits::decimal;
 use crate::digits::hex;
 use crate::digits::hex_bytes;
-
-// Whether two texts have the same bytes.
-pub fn equal(a: &[u8], b: &[u8]) -> bool
-    ensures { λ r. ⌜ r ≡ same (now (a .entry)) (now (b .entry)) ⌝ }
-{
-    let mut i = 0;
-    while i < a.len() {
-        if i >= b.len() {
-            return false;
-        }
-        if a[i] != b[i] {
-            return false;
-        }
-        i += 1;
-    }
-    if i < b.len() {
-        return false;
-    }
-    true
-}
 
 // What a line says. The bytes of a BYTES line stay where they are, behind its second tab.
 pub enum Line {

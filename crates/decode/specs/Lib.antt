@@ -1,0 +1,2 @@
+-- Working definitions of decoding.
+pub mod Names
