@@ -1,0 +1,2 @@
+-- Working definitions of listing.
+pub mod Adding
