@@ -3,3 +3,4 @@ pub mod Shown
 pub mod Instance
 pub mod Premises
 pub mod Weak
+pub mod RightRules

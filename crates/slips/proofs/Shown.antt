@@ -13,6 +13,7 @@ use Rattle.slips.specs.Order as order
 use Rattle.slips.specs.Runs as runs
 use Rattle.slips.specs.Sheets as sheets
 use Rattle.slips.specs.Answers as answers
+use Rattle.slips.specs.Listings as listings
 use Rattle.slips.specs.Plain as plain
 
 pub words-shown : unshown words.slips ≡ []
@@ -54,6 +55,10 @@ sheets-shown = refl
 pub answers-shown : unshown answers.slips ≡ []
 unfolding answers.computes
 answers-shown = refl
+
+pub listings-shown : unshown listings.slips ≡ []
+unfolding listings.computes
+listings-shown = refl
 
 pub plain-shown : unshown plain.slips ≡ []
 unfolding plain.computes

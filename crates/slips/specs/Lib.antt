@@ -11,4 +11,5 @@ pub mod Order
 pub mod Runs
 pub mod Sheets
 pub mod Answers
+pub mod Listings
 pub mod Plain

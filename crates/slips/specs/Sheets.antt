@@ -6,7 +6,7 @@ use mathlib.Core.List.{List, [], _∷_, _++_}
 use lib.Dec.{eqb, leb, ltb}
 use lib.ListN.{length, getD, replicate}
 use Rattle.words.specs.Pick.{pick, both, either}
-use Rattle.words.specs.Ascii.{ascii}
+use Rattle.words.specs.Ascii.{ascii, same}
 use Rattle.reading.specs.Cut.{span, before, after, count}
 use Rattle.reading.specs.Digits.{digitOf, allDigits, valueAfter, valueOf, noLeadingZero, isDecimal, isHex, isBytes, pairsOf}
 use Rattle.reading.specs.Line as line
@@ -17,7 +17,7 @@ use Rattle.slips.specs.Row.{Row, row}
 
 -- the definitions that this table computes
 unfoldable pub computes : Unit {0}
-unfolding span before after count digitOf allDigits valueAfter noLeadingZero isDecimal isHex isBytes pairsOf line.same line.readEntry
+unfolding span before after count digitOf allDigits valueAfter noLeadingZero isDecimal isHex isBytes pairsOf same line.readEntry
     line.readBytes line.readStart line.readRun line.lineOf each nearest mayStand linesFrom setBy readBelow readOnto
 computes = tt
 
