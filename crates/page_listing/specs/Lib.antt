@@ -1,0 +1,2 @@
+-- The listing of a page of a machine.
+pub mod Page
