@@ -25,6 +25,9 @@ const VERSION: &str = "Hercules Version ";
 const LOADED: &str = "HHCPN113I";
 const WAITS: &str = "HHCCP011I";
 const SAVED: &str = "HHCPN170I";
+const UNKNOWN: &str = "HHCPN139E";
+/// What its threads say when they start, in any order; the last, of the file that is not there.
+const STARTED: [&str; 4] = ["HHCCP003I", "HHCTT002I", "HHCAO001I", "HHCPN995E"];
 
 struct Talk {
     process: Bounded,
@@ -80,7 +83,13 @@ impl Talk {
 
     /// Waits for a message with one of these parts, and answers which.
     fn hear(&mut self, parts: &[&str]) -> Result<usize, String> {
+        self.hear_all(parts).map(|(_, which)| which)
+    }
+
+    /// The same, with the messages that came before it.
+    fn hear_all(&mut self, parts: &[&str]) -> Result<(Vec<String>, usize), String> {
         let end = Instant::now() + PATIENCE;
+        let mut before = Vec::new();
         loop {
             let left = end.saturating_duration_since(Instant::now());
             let message = self
@@ -91,9 +100,20 @@ impl Talk {
                 self.version = version.to_string();
             }
             if let Some(which) = parts.iter().position(|part| message.contains(part)) {
-                return Ok(which);
+                return Ok((before, which));
             }
+            before.push(message);
         }
+    }
+
+    /// Waits until a message with each of these parts has come.
+    fn hear_each(&mut self, parts: &[&str]) -> Result<(), String> {
+        let mut left = parts.to_vec();
+        while !left.is_empty() {
+            let which = self.hear(&left)?;
+            left.remove(which);
+        }
+        Ok(())
     }
 
     /// A command for a stopped processor, given again until the processor has stopped and `done` is heard.
@@ -139,6 +159,32 @@ pub fn run(folder: &Path, storage: &[u8]) -> Result<Ended, String> {
         storage: held,
         version: talk.version,
     })
+}
+
+/// Loads pieces of code from an address on, and answers what the command `u` writes of each, and Hercules' version. It writes no more
+/// than 999 lines at a time: a piece has to be shorter.
+pub fn unassemble(
+    folder: &Path,
+    at: u32,
+    pieces: &[Vec<u8>],
+) -> Result<(Vec<String>, String), String> {
+    let file = folder.join("code");
+    fs::write(&file, pieces.concat()).map_err(|error| error.to_string())?;
+    let mut talk = begin(folder)?;
+    // What another thread says would stand in the midst of a line.
+    talk.hear_each(&STARTED)?;
+    talk.ask(&format!("loadcore {} {at:X}", file.display()), LOADED)?;
+    let mut from = at as usize;
+    for piece in pieces {
+        talk.say(&format!("u {from:X}.{:X}", piece.len()))?;
+        from += piece.len();
+    }
+    // Refused after the last line of the last answer.
+    talk.say("no-such-command")?;
+    let (lines, _) = talk.hear_all(&[UNKNOWN])?;
+    talk.say("quit")?;
+    talk.process.wait(PATIENCE)?;
+    Ok((lines, talk.version))
 }
 
 /// Addresses keep 24 bits.

@@ -11,6 +11,7 @@ pub mod census;
 pub mod draft;
 pub mod edges;
 pub mod generate;
+pub mod listing;
 pub mod loose;
 pub mod machine;
 pub mod many;
@@ -20,7 +21,9 @@ pub mod probe;
 pub mod programs;
 mod results;
 pub mod scene;
+pub mod seen;
 pub mod sheet;
+pub mod stretches;
 pub mod sweeps;
 
 use machine::Machine;

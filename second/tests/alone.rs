@@ -1,14 +1,16 @@
-//! The machine is a witness of its own: what goes from a sheet to its answer uses nothing of the repository but itself.
+//! The machine and the listing are witnesses of their own: what goes from a sheet to its answer, or from code to its listing, uses
+//! nothing of the repository but itself.
 use std::fs;
 use std::path::Path;
 
-const OWN: [&str; 6] = [
+const OWN: [&str; 7] = [
     "machine",
     "actions",
     "results",
     "operations",
     "sheet",
     "print",
+    "listing",
 ];
 
 /// The word that follows each place where `path` stands.
@@ -21,7 +23,7 @@ fn named_after<'a>(text: &'a str, path: &str) -> Vec<&'a str> {
 }
 
 #[test]
-fn the_machine_uses_itself_alone() {
+fn machine_and_listing_use_themselves_alone() {
     let folder = Path::new(env!("CARGO_MANIFEST_DIR")).join("src");
     let mut uses = 0;
     for name in OWN {
@@ -46,5 +48,5 @@ fn the_machine_uses_itself_alone() {
             assert!(!text.contains(foreign), "{name} has {foreign}");
         }
     }
-    assert!(uses >= 5, "no use was found at all");
+    assert!(uses >= 6, "no use was found at all");
 }
