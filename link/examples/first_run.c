@@ -1,4 +1,4 @@
-/* Loads a program, runs it, explains why it stopped, and lets it go on. */
+/* Lists a program, loads and runs it, explains why it stopped, and lets it go on. */
 #include <inttypes.h>
 #include <stdio.h>
 #include <string.h>
@@ -11,6 +11,24 @@ static uint32_t registers[SPECTRA46_REGISTERS];
 
 /* LA 1,5; ALR 1,1; ST 1,0(0,2): twice five, stored where register 2 points. */
 static const uint8_t program[] = {0x41, 0x10, 0x00, 0x05, 0x1E, 0x11, 0x50, 0x10, 0x20, 0x00};
+
+/* Shows code that lies at the address start, an instruction a line. Returns whether all of it was listed. */
+static int list(const uint8_t *code, size_t size, uint32_t start)
+{
+    uint8_t text[4096];
+    size_t told[SPECTRA46_TOLD]; /* lines, the code byte to go on from, bytes of text */
+
+    while (size > 0) {
+        uint32_t number = spectra46_list(code, size, start, text, sizeof text, told, SPECTRA46_TOLD);
+        if (number != SPECTRA46_COMPLETED || told[0] == 0)
+            return 0;
+        fwrite(text, 1, told[2], stdout);
+        code += told[1];
+        size -= told[1];
+        start = (uint32_t)((start + told[1]) % 16777216);
+    }
+    return 1;
+}
 
 /* Why a step was not done. */
 static void explain(uint32_t number, uint32_t place)
@@ -39,6 +57,10 @@ int main(void)
     if (spectra46_version() / 256 != SPECTRA46_VERSION / 256) {
         fprintf(stderr, "another library than this program was compiled for\n");
         return 2;
+    }
+    if (!list(program, sizeof program, 0x00A000)) {
+        fprintf(stderr, "the program cannot be listed\n");
+        return 1;
     }
     pages[10] = 0x3003; /* page 10 is usable and nonprivileged, on frame 3 */
     memcpy(memory + 3 * 4096, program, sizeof program);

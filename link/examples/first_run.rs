@@ -1,4 +1,4 @@
-//! Loads a program, runs it, explains why it stopped, and lets it go on.
+//! Lists a program, loads and runs it, explains why it stopped, and lets it go on.
 use spectra46::{Machine, Stop};
 use std::error::Error;
 
@@ -6,6 +6,10 @@ use std::error::Error;
 const PROGRAM: [u8; 10] = [0x41, 0x10, 0x00, 0x05, 0x1E, 0x11, 0x50, 0x10, 0x20, 0x00];
 
 fn main() -> Result<(), Box<dyn Error>> {
+    for line in spectra46::listing(&PROGRAM, 0x00_A000)? {
+        println!("{}", line?);
+    }
+
     let mut machine = Machine::new(65_536)?;
     machine.pages[10] = 0x3003; // page 10 is usable and nonprivileged, on frame 3
     machine.memory[3 * 4096..3 * 4096 + PROGRAM.len()].copy_from_slice(&PROGRAM);

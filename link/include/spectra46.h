@@ -1,4 +1,4 @@
-/* The Spectra 70/46 engine, as linked from libouter.a: a single step, a run, and a bench sheet's answer.
+/* The Spectra 70/46 engine, as linked from libouter.a: a single step, a run, a bench sheet's answer, and a listing of code.
  *
  * Each list is a pointer and its number of elements. No pointer may be null, not even of an empty list; each must be aligned for
  * its type; no list that a function may write to may overlap another list of the same call. The engine keeps nothing between two
@@ -24,14 +24,14 @@
  *
  * The numbers, which a function also returns:
  *
- *   0  completed: a single step only. Place 0, count 1
+ *   0  completed: a single step, with place 0 and count 1; or a listing
  *   1  addressing: an address of 2,097,152 or more, or a real address beyond memory. Place: the first failing byte
  *   2  specification: an odd program counter, or an operand off its boundary. Place: the counter, or the operand's address
  *   3  paging queue: the page is not usable (U reset). Place: the first failing byte
  *   4  paging error: an X bit set, past the end of a 2,048-byte page, S reset, or a store where E is set. Place: the first failing
  *      byte
  *   5  the operation is not in the set. Place: the program counter
- *   6  a list of the wrong length, or counter, code, mask or budget out of range. Place 0, count 0
+ *   6  a list of the wrong length, or counter, code, mask, budget or a listing's start out of range. Place 0, count 0
  *   7  the budget is spent: a run only. Place 0, count is the budget
  *
  * Numbers 1 to 6 alter nothing in the step that they refuse: memory, map, registers, counter, code and mask are as they were
@@ -42,12 +42,13 @@
  *     if (spectra46_version() / 256 != SPECTRA46_VERSION / 256) ... another library: use nothing of it
  *
  * While the first two numbers of the version stay, so do the functions here, their parameters and the order of these, the lengths of
- * the lists, the reply's six numbers and their order, and what the numbers 0 to 7 mean. The third number moves for what no caller has
- * to know. When the second moves, any of this may have changed, and CHANGELOG.md says what.
+ * the lists, the reply's six numbers and their order, the form of a listing's lines and what is told of it, and what the numbers 0 to 7
+ * mean. The third number moves for what no caller has to know. When the second moves, any of this may have changed, and CHANGELOG.md
+ * says what.
  *
  * Numbers beyond 7 may be added in any version. A caller must take every number that it does not know as a refusal: the step was
- * not done. So ask whether the number is SPECTRA46_COMPLETED after a step and SPECTRA46_BUDGET_SPENT after a run, never whether it
- * is one of the refusals. */
+ * not done, nothing was listed. So ask whether the number is SPECTRA46_COMPLETED after a step or a listing and SPECTRA46_BUDGET_SPENT
+ * after a run, never whether it is one of the refusals. */
 #ifndef SPECTRA46_H
 #define SPECTRA46_H
 
@@ -58,8 +59,8 @@
 extern "C" {
 #endif
 
-/* This header's version, 0.3.0, as one number: major * 65,536 + minor * 256 + patch. */
-#define SPECTRA46_VERSION 768
+/* This header's version, 0.4.0, as one number: major * 65,536 + minor * 256 + patch. */
+#define SPECTRA46_VERSION 1024
 
 enum {
     SPECTRA46_COMPLETED = 0,
@@ -76,6 +77,8 @@ enum {
 #define SPECTRA46_REGISTERS 16
 #define SPECTRA46_REPLY 6
 #define SPECTRA46_ROOM 8192
+#define SPECTRA46_TOLD 3
+#define SPECTRA46_LINE_LONGEST 33
 
 /* The version of the library that is linked, in the form of SPECTRA46_VERSION. */
 uint32_t spectra46_version(void);
@@ -98,6 +101,33 @@ uint32_t spectra46_run(uint8_t *mem, size_t mem_len,
 /* The answer to a bench sheet of any length, a BAD line where it is misformed, written to room with zeros after it.
  * Returns the answer's length, 1 to 8,192. room_len must be 8,192: with any other, returns 0 and writes nothing. */
 size_t spectra46_sheet(const uint8_t *sheet, size_t sheet_len, uint8_t *room, size_t room_len);
+
+/* A listing of code, of any length, whose first byte lies at the address start: one instruction a line, as many lines as fit out whole.
+ * The code is only read, and never run. As everywhere, code, out and told may not overlap.
+ *
+ * A line is address, operation name and operands, parted by tabs, and LF; there is no zero behind it. The address is six hex digits.
+ * The name is the manual's, and the operands are every field of the instruction's format: docs/RULES.md, section 12, has their form.
+ * Bytes that are no instruction of the set, or that belong to one which the code's end cuts off, have a line with the name DC and the
+ * raw bytes as X'..': two of them, or the one that is left. The next line is that of the byte behind them. No byte is listed twice or
+ * left out. Addresses wrap at 2^24.
+ *
+ * told is three numbers, all out:
+ *   told[0]  how many lines were written
+ *   told[1]  the code byte to go on from: all before it is listed. It is code_len when all is
+ *   told[2]  how many bytes of out the lines take, from out[0] on. The rest of out is as it was
+ * The first line that does not fit ends it; a shorter one after it is not tried.
+ *
+ * To go on, call again with code + told[1], code_len - told[1] and (start + told[1]) % 16,777,216.
+ *
+ * SPECTRA46_LINE_LONGEST is the longest line, its LF included: with so much room a call always gets on, where there is code left. Later
+ * versions may have longer lines. Who wants to be safe with those as well gives more room, 4,096 bytes say, and takes it as an error if
+ * told[0] is 0 while code is left.
+ *
+ * Returns 0; or 6 where start is 16,777,216 or more: then told is 0, 0, 0 and out is as it was. Where told_len is not 3, returns 6 and
+ * writes nothing at all. With a number that the caller does not know, out and told say nothing. */
+uint32_t spectra46_list(const uint8_t *code, size_t code_len, uint32_t start,
+                        uint8_t *out, size_t out_len,
+                        size_t *told, size_t told_len);
 
 #ifdef __cplusplus
 }

@@ -1,2 +1,3 @@
 mod Crossings
+mod Listings
 mod Only

@@ -12,12 +12,13 @@ use Rattle.demand.specs.DemandOne.{CleanStep, CleanRun}
 use Rattle.demand.specs.DemandThree.{PagesKeep}
 use Rattle.printing.specs.declared.Text.{Text}
 use Rattle.printing.specs.Answer.{textOf}
+use Rattle.lines.specs.Listing.{Answer, listed}
 use Rattle.reading.specs.Setting.{Setting}
 use Rattle.sheet.specs.Sheet.{machineOf, printed, answerOf}
 
--- the version of these functions, 0.3.0, as one number: major × 65,536 + minor × 256 + patch
+-- the version of these functions, 0.4.0, as one number: major × 65,536 + minor × 256 + patch
 abbrev pub version : ℕ
-version = 768
+version = 1024
 
 pub record Crossed : Type 0 where
   pub number : ℕ
@@ -85,3 +86,21 @@ pub record SheetMeets (h : Setting) (t : Text) : Type 0 where
   pub from : Outcome
   pub meets : RunMeets (h .budget) (machineOf h) from
   pub text : t ≡ textOf (printed (h .map) from)
+
+-- What the caller of a listing has afterwards: the number, the output, and what it is told.
+pub record CrossedList : Type 0 where
+  pub number : ℕ
+  pub out : List ℕ
+  pub told : List ℕ
+
+abbrev pub crossedList : ℕ → List ℕ → List ℕ → CrossedList
+crossedList n out told = record { number = n; out = out; told = told }
+
+-- an answer, with what is told as a list of three: lines, next, written
+abbrev pub handedOver : Answer → CrossedList
+handedOver a = crossedList (a .number) (a .out) (a .lines ∷ a .next ∷ a .written ∷ [])
+
+-- a listing; where what is told has not three places, number 6 and nothing altered
+unfoldable pub listCrossed : List ℕ → ℕ → List ℕ → List ℕ → CrossedList
+listCrossed code start out told =
+    pick (eqb (length told) 3) (handedOver (listed code start out)) (crossedList 6 out told)

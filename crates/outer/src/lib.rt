@@ -1,10 +1,11 @@
-// The engine for programs in other languages to link: a single step, a run, and a sheet's answer. Only numbers and slices cross.
+// The engine for programs in other languages to link: a single step, a run, a sheet's answer, and a listing of code. Only numbers and
+// slices cross.
 use machine::Reply;
 ghost use mathlib.Core.Path.{_≡_};
 ghost use lib.Dec.{eqb};
 ghost use lib.ListN.{length};
 ghost use Rattle.words.specs.Pick.{pick};
-ghost use Rattle.outer.specs.Crossing.{version, crossed, six, lent, readOff, stepCrossed, StepMeets, runCrossed, RunMeets, sheetCrossed, SheetMeets};
+ghost use Rattle.outer.specs.Crossing.{version, crossed, six, lent, readOff, stepCrossed, StepMeets, runCrossed, RunMeets, sheetCrossed, SheetMeets, crossedList, listCrossed};
 ghost use Rattle.reading.specs.Setting.{Setting};
 ghost use Rattle.reading.specs.Sheet.{good, readingOf};
 
@@ -13,7 +14,7 @@ ghost use Rattle.reading.specs.Sheet.{good, readingOf};
 pub extern "C" fn spectra46_version() -> u32
     ensures { λ r. ⌜ r ≡ version ⌝ }
 {
-    768
+    1024
 }
 
 // The six numbers of a reply, into six places.
@@ -83,4 +84,20 @@ pub extern "C" fn spectra46_sheet(sheet: &[u8], room: &mut [u8]) -> usize
     let bytes = text.bytes;
     printing::writing::put_all(room, 0, &bytes);
     text.len
+}
+
+// As many lines of the code's listing as fit the output. `told` has on return how many they are, the code byte to go on from, and how
+// many bytes of the output they take.
+#[no_mangle]
+pub extern "C" fn spectra46_list(code: &[u8], start: u32, out: &mut [u8], told: &mut [usize]) -> u32
+    ensures { λ r. ⌜ crossedList r (now (out .exit)) (now (told .exit)) ≡ listCrossed (now (code .entry)) start (now (out .entry)) (now (told .entry)) ⌝ }
+{
+    if told.len() != 3 {
+        return 6;
+    }
+    let r = listing::list(code, start, out);
+    told[0] = r.lines;
+    told[1] = r.next;
+    told[2] = r.written;
+    r.number
 }

@@ -13,8 +13,17 @@
 //! # Ok::<(), spectra46::WrongLibrary>(())
 //! ```
 //!
-//! Whatever the library says that this crate does not know is an error: a number of a later version is [`Refusal::Unknown`], and a
-//! library of another version makes no machine at all ([`WrongLibrary`]).
+//! To read a program before it runs, [`listing()`] gives its instructions, one a line:
+//!
+//! ```
+//! for line in spectra46::listing(&[0x41, 0x10, 0x00, 0x05, 0x1E, 0x11], 0x00_A000)? {
+//!     println!("{}", line?); // 00A000, LA, 1,5(0,0); then 00A004, ALR, 1,1
+//! }
+//! # Ok::<(), spectra46::ListingError>(())
+//! ```
+//!
+//! Whatever the library says that this crate does not know is an error: a number of a later version is [`Refusal::Unknown`] or
+//! [`ListingError::Unknown`], and a library of another version makes no machine and no listing at all ([`WrongLibrary`]).
 //!
 //! Byte order: memory is bytes as the 70/46 has them, the highest byte of a word first. Registers, page words and all other numbers are
 //! numbers of the host, whatever its byte order.
@@ -25,11 +34,15 @@
 extern crate alloc;
 
 mod library;
+mod line;
+mod listing;
 mod machine;
 pub mod raw;
 mod refusal;
 
 pub use library::{check_library, version, Built, Version, WrongLibrary, BUILT, VERSION};
+pub use line::Line;
+pub use listing::{listing, Listing, ListingError};
 pub use machine::{Machine, Ran, Stop};
 pub use refusal::Refusal;
 

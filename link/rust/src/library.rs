@@ -104,8 +104,8 @@ pub fn version() -> Version {
     Version::of(raw::version())
 }
 
-/// Whether the library that is linked has this crate's major and minor number. [`Machine::new`](crate::Machine::new) and
-/// [`answer`](crate::answer) ask it themselves; who calls [`raw`] has to.
+/// Whether the library that is linked has this crate's major and minor number. [`Machine::new`](crate::Machine::new),
+/// [`answer`](crate::answer) and [`listing`](crate::listing()) ask it themselves; who calls [`raw`] has to.
 pub fn check_library() -> Result<(), WrongLibrary> {
     check(raw::version())
 }
@@ -132,10 +132,10 @@ mod tests {
 
     #[test]
     fn a_version_there_and_back() {
-        for number_of in [0, 768, 0x01_02_03, 0xFFFF_FFFF] {
+        for number_of in [0, 1_024, 0x01_02_03, 0xFFFF_FFFF] {
             assert_eq!(number(Version::of(number_of)), number_of);
         }
-        assert_eq!(Version::of(768).to_string(), "0.3.0");
+        assert_eq!(Version::of(1_024).to_string(), "0.4.0");
         assert_eq!(decimal("1203"), 1203);
     }
 

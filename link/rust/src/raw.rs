@@ -4,7 +4,7 @@
 //! The header `link/include/spectra46.h` says what each list is and what the functions promise.
 #![allow(unsafe_code)]
 
-/// A step completed.
+/// A step, or a listing, completed.
 pub const COMPLETED: u32 = 0;
 /// An address of 2,097,152 or more, or a real address beyond memory.
 pub const ADDRESSING: u32 = 1;
@@ -16,7 +16,7 @@ pub const PAGING_QUEUE: u32 = 3;
 pub const PAGING_ERROR: u32 = 4;
 /// The operation is not in the set.
 pub const OPERATION: u32 = 5;
-/// A list of a wrong length, or counter, code, mask or budget out of range.
+/// A list of a wrong length, or counter, code, mask, budget or a listing's start out of range.
 pub const OUT_OF_RANGE: u32 = 6;
 /// A run did as many steps as were asked for.
 pub const BUDGET_SPENT: u32 = 7;
@@ -29,6 +29,10 @@ pub const REGISTERS: usize = 16;
 pub const REPLY: usize = 6;
 /// How many bytes a room for a sheet's answer has.
 pub const ROOM: usize = 8192;
+/// How many numbers are told of a listing.
+pub const TOLD: usize = 3;
+/// How many bytes the longest line of a listing has, its LF included.
+pub const LINE_LONGEST: usize = 33;
 
 mod c {
     extern "C" {
@@ -60,6 +64,15 @@ mod c {
             room: *mut u8,
             room_length: usize,
         ) -> usize;
+        pub fn spectra46_list(
+            code: *const u8,
+            code_length: usize,
+            start: u32,
+            out: *mut u8,
+            out_length: usize,
+            told: *mut usize,
+            told_length: usize,
+        ) -> u32;
     }
 }
 
@@ -118,4 +131,22 @@ pub fn run(
 pub fn sheet(sheet: &[u8], room: &mut [u8]) -> usize {
     // SAFETY: as for a step; the sheet is only read.
     unsafe { c::spectra46_sheet(sheet.as_ptr(), sheet.len(), room.as_mut_ptr(), room.len()) }
+}
+
+/// As many lines of the code's listing as fit `out` whole. `told` has [`TOLD`] places: how many lines were written, the code byte to go
+/// on from, and how many bytes of `out` the lines take.
+#[must_use]
+pub fn list(code: &[u8], start: u32, out: &mut [u8], told: &mut [usize]) -> u32 {
+    // SAFETY: as for a step; the code is only read.
+    unsafe {
+        c::spectra46_list(
+            code.as_ptr(),
+            code.len(),
+            start,
+            out.as_mut_ptr(),
+            out.len(),
+            told.as_mut_ptr(),
+            told.len(),
+        )
+    }
 }

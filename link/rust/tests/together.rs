@@ -50,6 +50,8 @@ fn numbers_of_the_header() {
         ("REGISTERS", raw::REGISTERS as u32),
         ("REPLY", raw::REPLY as u32),
         ("ROOM", raw::ROOM as u32),
+        ("TOLD", raw::TOLD as u32),
+        ("LINE_LONGEST", raw::LINE_LONGEST as u32),
     ];
     for (name, number) in all {
         assert_eq!(
