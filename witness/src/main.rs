@@ -15,6 +15,7 @@ mod tally;
 use case::Case;
 use common::hercules;
 use common::set::SET;
+use common::status::status;
 use std::path::Path;
 use std::process::ExitCode;
 use tally::Tally;
@@ -107,12 +108,5 @@ fn run(arguments: &[String]) -> Result<usize, String> {
 
 fn main() -> ExitCode {
     let arguments: Vec<String> = std::env::args().skip(1).collect();
-    match run(&arguments) {
-        Ok(0) => ExitCode::SUCCESS,
-        Ok(_) => ExitCode::from(1),
-        Err(problem) => {
-            eprintln!("witness: {problem}");
-            ExitCode::from(2)
-        }
-    }
+    status("witness", run(&arguments))
 }

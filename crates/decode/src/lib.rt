@@ -16,12 +16,11 @@ use code::SsFields;
 use code::Width;
 use words::Alu;
 use words::Logic;
-
-pub mod names; // names.rt: the names, by code
-
 ghost use mathlib.Core.Path.{_≡_};
 ghost use Rattle.code.specs.Table.{actionOf};
 ghost use Rattle.code.specs.Formats.{lengthOf, rrOf, rxOf, rsOf, siOf, ssOf};
+
+pub mod names; // names.rt: the names, by code
 
 pub fn split_rr(h1: u16) -> RrFields
     ensures { λ r. ⌜ r ≡ rrOf h1 ⌝ }

@@ -9,7 +9,7 @@ use Rattle.code.specs.Table as code
 use Rattle.printing.specs.Digits.{decimalOf, digitsOf, digit, trimmed}
 use Rattle.lines.specs.Line.{based, indexed, hexBytes, quoted, rrText, rxText, rsText, siText, ssText, operandsOf}
 use Rattle.lines.specs.Line.{instructionIn, textOf}
-use Rattle.lines.specs.Listing.{sizeOf, linesIn, listing, stretches, texts, fitting, Answer, written, listedFrom, listed}
+use Rattle.lines.specs.Listing.{sizeOf, linesIn, listing, stretches, texts, fitting, Answer, putOut, listedFrom, listed}
 
 -- what the definitions give, and what they should
 record Case : Type 0 where
@@ -70,5 +70,5 @@ table =
 
 all-right : map (λ (k : Case). k .given) table ≡ map (λ (k : Case). k .said) table
 unfolding table based indexed hexBytes quoted rrText rxText rsText siText ssText operandsOf instructionIn textOf sizeOf linesIn listing
-    stretches texts fitting written listedFrom listed code.table code.actionOf code.nameOf decimalOf digitsOf digit trimmed
+    stretches texts fitting putOut listedFrom listed code.table code.actionOf code.nameOf decimalOf digitsOf digit trimmed
 all-right = refl

@@ -6,7 +6,7 @@ use native.Mathlib.Omega.{arith}
 use lib.ListN.{length, take, drop, length-append, length-drop}
 use borrow.Author.Tests.{lt-ltb, le-leb}
 use Rattle.lines.specs.Line.{Line, textOf}
-use Rattle.lines.specs.Listing.{wrapped, listing, stretches, texts, fitting, written, listedFrom, listed}
+use Rattle.lines.specs.Listing.{wrapped, listing, stretches, texts, fitting, putOut, listedFrom, listed}
 use Rattle.lines.proofs.Steps.{listing-none, listing-some}
 use Rattle.lines.proofs.AllBytes.{InOrder, in-order, wrapped-same, wrapped-small}
 use Rattle.lines.proofs.GoesOn.{goes-on}
@@ -34,7 +34,7 @@ some-bytes a (l ∷ ls) ms o h = omega (arith, o .1, length-append (l .bytes) (s
 
 next-some : (a : ℕ) (code out : List ℕ) → a < 2 ^ 24 → 0 < length (fitting (length out) (listing a code))
     → 0 < listed code a out .next
-unfolding listed listedFrom written
+unfolding listed listedFrom putOut
 next-some a code out h f =
     let ls = fitting (length out) (listing a code) in
     let n = length (stretches ls) in

@@ -8,7 +8,7 @@ use lib.ListN.{length, take, drop, length-append, length-drop}
 use lib.Seq.{take-append-seam, drop-append-seam, drop-drop}
 use borrow.Author.Tests.{lt-ltb, le-ltb}
 use Rattle.lines.specs.Line.{Line, line, textOf}
-use Rattle.lines.specs.Listing.{sizeOf, wrapped, listing, stretches, texts, fitting, Answer, written, listedFrom, listed}
+use Rattle.lines.specs.Listing.{sizeOf, wrapped, listing, stretches, texts, fitting, Answer, putOut, listedFrom, listed}
 use Rattle.lines.proofs.Steps.{listing-some}
 use Rattle.lines.proofs.AllBytes.{all-bytes, wrapped-again, wrapped-same, wrapped-small}
 use Rattle.lines.proofs.Cut.{Over, cut}
@@ -42,7 +42,7 @@ over-first room a code ls o e h = rw (e ∙ listing-some a code h) at o
 
 pub front-from : (code : List ℕ) (at start : ℕ) (out : List ℕ) → at ≤ length code
     → FrontOf (listing (wrapped (start + at)) (drop at code)) code start out (listedFrom code at start out)
-unfolding listedFrom written
+unfolding listedFrom putOut
 front-from code at start out i =
     let a = wrapped (start + at) in
     let rest = drop at code in

@@ -68,9 +68,9 @@ abbrev pub answered : Listed → List ℕ → Answer
 answered r out =
     record { number = r .number; lines = r .lines; next = r .next; written = r .written; out = out }
 
--- lines that stand for the code from the byte `at` on, written to an output: what stood there before is behind them
-unfoldable pub written : ℕ → List Line → List ℕ → Answer
-written at ls out =
+-- the answer when lines that stand for the code from the byte `at` on are put out: behind them is what stood there before
+unfoldable pub putOut : ℕ → List Line → List ℕ → Answer
+putOut at ls out =
     record {
       number = 0;
       lines = length ls;
@@ -81,7 +81,7 @@ written at ls out =
 
 -- the listing from the byte `at` on of code whose first byte lies at `start`
 unfoldable pub listedFrom : List ℕ → ℕ → ℕ → List ℕ → Answer
-listedFrom code at start out = written at (fitting (length out) (listing (wrapped (start + at)) (drop at code))) out
+listedFrom code at start out = putOut at (fitting (length out) (listing (wrapped (start + at)) (drop at code))) out
 
 -- a start out of range gives 6
 unfoldable pub listed : List ℕ → ℕ → List ℕ → Answer

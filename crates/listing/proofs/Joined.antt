@@ -1,6 +1,6 @@
 -- Operands and lines from their parts. `s` is the buffer and place at the start; each letter after it, those after one part more.
 use mathlib.Core.Path.{_≡_, sym, ap, ap₂, _∙_}
-use mathlib.Core.List.{List, [], _∷_, _++_, append-assoc}
+use mathlib.Core.List.{List, [], _∷_, _++_}
 use Prim.Native.Nat.{ℕ, _+_}
 use lib.ListN.{getD}
 use Rattle.code.specs.declared.Action.{Action}
@@ -22,13 +22,9 @@ use Rattle.code.specs.Formats.{rrOf, rxOf, rsOf, siOf, ssOf}
 use Rattle.printing.specs.Digits.{digitsOf, hexOf, decimalOf}
 use Rattle.printing.specs.Lines.{field, LF}
 use Rattle.printing.specs.Writing.{Spot, wrote}
-use Rattle.printing.proofs.WrittenText.{after}
+use Rattle.printing.proofs.WrittenText.{after, also}
 use Rattle.lines.specs.Line.{line, based, indexed, hexBytes, quoted, comma, rrText, rxText, rsText, siText, ssText}
 use Rattle.lines.specs.Line.{halfAt, operandsOf, instructionIn, saidOf, textOf}
-
--- x is there, and y comes with the mark m
-also : (s a b : Spot) (x y m : List ℕ) → a ≡ wrote s x → b ≡ wrote a (y ++ m) → b ≡ wrote s (x ++ y ++ m)
-also s a b x y m h i = after s a b x (y ++ m) h i ∙ ap (wrote s) (sym (append-assoc x y m))
 
 pub number-joined : (s a : Spot) (n v : ℕ) → digitsOf 10 n v ≡ decimalOf v → a ≡ wrote s (digitsOf 10 n v) → a ≡ wrote s (decimalOf v)
 number-joined s a n v e h = h ∙ ap (wrote s) e

@@ -1,6 +1,7 @@
 -- What the proofs of listing share.
 pub mod Joined
-pub mod Parts
+pub mod Stretches
+pub mod Loops
 pub mod Reaches
 pub mod Added
 pub mod Turns

@@ -15,7 +15,7 @@ use Rattle.printing.specs.Digits.{hexOf}
 use Rattle.printing.specs.Writing.{Spot, spot}
 use Rattle.printing.proofs.WrittenText.{wrote-sets}
 use Rattle.lines.specs.Line.{Line, line, instructionIn, saidOf, textOf}
-use Rattle.lines.specs.Listing.{sizeOf, wrapped, listing, stretches, texts, fitting, Answer, written, listedFrom, listed}
+use Rattle.lines.specs.Listing.{sizeOf, wrapped, listing, stretches, texts, fitting, Answer, putOut, listedFrom, listed}
 use Rattle.lines.proofs.Steps.{size-some, size-within, size-few, listing-none, listing-some}
 use Rattle.lines.proofs.AllBytes.{wrapped-again}
 use Rattle.listing.specs.Adding.{added}
@@ -43,7 +43,7 @@ abbrev pub halt : ℕ → ℕ → ℕ → List ℕ → Answer
 halt lines next w out = record { number = 0; lines = lines; next = next; written = w; out = out }
 
 pub begins : (code : List ℕ) (at start : ℕ) (out : List ℕ) → listedFrom code at start out ≡ onFrom code start 0 at 0 out
-unfolding listedFrom written
+unfolding listedFrom putOut
 begins code at start out = simp (zero-add, sub-zero) refl
 
 on-none : (lines next w : ℕ) (out : List ℕ) → on lines next w out [] ≡ halt lines next w out

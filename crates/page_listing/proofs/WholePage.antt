@@ -10,7 +10,7 @@ use Rattle.pages.specs.declared.Look.{Look}
 use Rattle.pages.specs.declared.Look.the-variants.{At, Refused}
 use Rattle.pages.specs.Look.{lookOf}
 use Rattle.lines.specs.Line.{Line, textOf}
-use Rattle.lines.specs.Listing.{sizeOf, wrapped, listing, texts, fitting, written, listedFrom, listed}
+use Rattle.lines.specs.Listing.{sizeOf, wrapped, listing, texts, fitting, putOut, listedFrom, listed}
 use Rattle.lines.proofs.Steps.{rest, rest-shorter, listing-none, listing-some}
 use Rattle.lines.proofs.AllBytes.{by-lines, wrapped-same}
 use Rattle.lines.proofs.Fronts.{firstLine}
@@ -72,7 +72,7 @@ module _ (mem map : List ℕ) (small : Bytes mem) where
         (omega (arith, few-characters (firstOf page) (bytesFrom mem map 4096 (firstOf page)) (from-small 4096 (firstOf page)), from-few 4096 (firstOf page)))
 
     pub whole-page : (r : ℕ) → lookOf map (length mem) Load (firstOf page) ≡ At r
-        → pageListed mem map page out ≡ ofPage (written 0 (listing (firstOf page) (pageBytes mem map page)) out)
+        → pageListed mem map page out ≡ ofPage (putOut 0 (listing (firstOf page) (pageBytes mem map page)) out)
     unfolding pageListed listed listedFrom
     whole-page r e =
         rw (lt-ltb page 512 h, e, lt-ltb (firstOf page) (2 ^ 24) (omega arith), wrapped-same (firstOf page) (omega arith), page-fits)

@@ -1,13 +1,13 @@
 -- Fields and lines from their parts. `s` is the buffer and place at the start; each letter after it, those after one part more.
-use mathlib.Core.Path.{_≡_, sym, ap, _∙_}
-use mathlib.Core.List.{List, [], _∷_, _++_, append-assoc}
+use mathlib.Core.Path.{_≡_, ap, _∙_}
+use mathlib.Core.List.{List, [], _∷_, _++_}
 use Prim.Native.Nat.{ℕ}
 use borrow.Author.Tests.{eq-eqb, ne-eqb}
 use Rattle.printing.specs.Digits.{digitsOf, hexOf, decimalOf}
 use Rattle.printing.specs.Lines.{STOP, REG, START, PAGE, BAD, LF, field, stopLine, regLine, startLine, pageLine, badLine}
 use Rattle.printing.specs.Answer.{regPart, pagePart, regsFrom, pagesFrom, answerText}
 use Rattle.printing.specs.Writing.{Spot, wrote}
-use Rattle.printing.proofs.WrittenText.{after, wrote-none}
+use Rattle.printing.proofs.WrittenText.{after, also, wrote-none}
 
 module _ (s a b : Spot) (h : a ≡ wrote s (9 ∷ [])) where
   pub field-of : (text : List ℕ) → b ≡ wrote a text → b ≡ wrote s (field text)
@@ -21,7 +21,7 @@ last-joined s a b text = after s a b (field text) LF
 
 -- the parts before are there, and the last field comes with its LF
 ended : (s a b : Spot) (x y : List ℕ) → a ≡ wrote s x → b ≡ wrote a (y ++ LF) → b ≡ wrote s (x ++ y ++ LF)
-ended s a b x y h i = after s a b x (y ++ LF) h i ∙ ap (wrote s) (sym (append-assoc x y LF))
+ended s a b x y = also s a b x y LF
 
 module _ (s a b : Spot) where
   pub bad-joined : (n : ℕ) → a ≡ wrote s BAD → b ≡ wrote a (field (decimalOf n) ++ LF) → b ≡ wrote s (badLine n)

@@ -9,11 +9,15 @@ use lib.Seq.{drop-cons}
 use Rattle.printing.specs.Digits.{digit, digitsOf}
 use Rattle.printing.specs.Answer.{regPart, pagePart, regsFrom, pagesFrom}
 use Rattle.printing.specs.Writing.{Spot, wrote}
-use Rattle.printing.proofs.WrittenText.{after, wrote-append, wrote-none}
+use Rattle.printing.proofs.WrittenText.{wrote-append, wrote-none}
+
+-- nothing is left, so it is all there
+pub nothing-left : (w s : Spot) (rest : List ℕ) → [] ≡ rest → w ≡ wrote s rest → s ≡ w
+nothing-left w s rest e h = wrote-none s ∙ ap (wrote s) e ∙ sym h
 
 module _ (w s t : Spot) where
   -- the rest is x and then y, and x was written
-  turn : (rest x y : List ℕ) → rest ≡ x ++ y → w ≡ wrote s rest → t ≡ wrote s x → w ≡ wrote t y
+  pub turn : (rest x y : List ℕ) → rest ≡ x ++ y → w ≡ wrote s rest → t ≡ wrote s x → w ≡ wrote t y
   turn rest x y e h f = h ∙ ap (wrote s) e ∙ wrote-append s x y ∙ ap (λ (k : Spot). wrote k y) (sym f)
 
   module _ (text : List ℕ) (i : ℕ) (h : w ≡ wrote s (drop i text)) where
@@ -21,7 +25,7 @@ module _ (w s t : Spot) where
     text-turn l f = turn (drop i text) (getD text i 0 ∷ []) (drop (i + 1) text) (rw (add-one, drop-cons text i 0)) h f
 
     pub text-end : length text ≤ i → s ≡ w
-    text-end l = wrote-none s ∙ ap (wrote s) (sym (drop-of-length-le text l)) ∙ sym h
+    text-end l = nothing-left w s (drop i text) (sym (drop-of-length-le text l)) h
 
   module _ (base left v d : ℕ) (h : w ≡ wrote s (digitsOf base left v)) where
     pub digits-turn : 0 < left → d ≡ digit (v / base ^ (left - 1) % base) → t ≡ wrote s (d ∷ []) → w ≡ wrote t (digitsOf base (left - 1) v)
@@ -34,7 +38,7 @@ module _ (w s t : Spot) where
             rw n (unfold digitsOf in refl)
 
     pub digits-end : left ≤ 0 → s ≡ w
-    digits-end l = wrote-none s ∙ ap (wrote s) (go left l) ∙ sym h
+    digits-end l = nothing-left w s (digitsOf base left v) (go left l) h
       where
         go : (k : ℕ) → k ≤ 0 → [] ≡ digitsOf base k v
         go zero l = unfold digitsOf in refl
@@ -48,7 +52,7 @@ module _ (w s t : Spot) where
 
     pub regs-end : length regs ≤ i → s ≡ w
     unfolding regsFrom
-    regs-end l = wrote-none s ∙ ap (λ (r : List ℕ). wrote s (regsFrom i r)) (sym (drop-of-length-le regs l)) ∙ sym h
+    regs-end l = nothing-left w s (regsFrom i (drop i regs)) (ap (regsFrom i) (sym (drop-of-length-le regs l))) h
 
   module _ (before done : List ℕ) (i : ℕ) (h : w ≡ wrote s (pagesFrom i (drop i before) (drop i done))) where
     pub pages-turn : i < length before → i < length done → t ≡ wrote s (pagePart i (getD before i 0) (getD done i 0))
@@ -63,10 +67,16 @@ module _ (w s t : Spot) where
 
     pub pages-end : length before ≤ i → s ≡ w
     unfolding pagesFrom
-    pages-end l = wrote-none s ∙ ap (λ (r : List ℕ). wrote s (pagesFrom i r (drop i done))) (sym (drop-of-length-le before l)) ∙ sym h
+    pages-end l =
+        nothing-left w s (pagesFrom i (drop i before) (drop i done))
+        (ap (λ (r : List ℕ). pagesFrom i r (drop i done)) (sym (drop-of-length-le before l)))
+        h
 
     pub pages-short : length done ≤ i → s ≡ w
-    pages-short l = wrote-none s ∙ ap (wrote s) (go (drop i before) ∙ ap (pagesFrom i (drop i before)) (sym (drop-of-length-le done l))) ∙ sym h
+    pages-short l =
+        nothing-left w s (pagesFrom i (drop i before) (drop i done))
+        (go (drop i before) ∙ ap (pagesFrom i (drop i before)) (sym (drop-of-length-le done l)))
+        h
       where
         go : (r : List ℕ) → [] ≡ pagesFrom i r []
         go [] = unfold pagesFrom in refl

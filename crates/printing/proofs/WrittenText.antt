@@ -1,6 +1,6 @@
 -- Laws of `wrote`: one byte, a text after another, and a whole text in a buffer that holds it.
 use mathlib.Core.Path.{_≡_, refl, sym, ap, _∙_}
-use mathlib.Core.List.{List, [], _∷_, _++_}
+use mathlib.Core.List.{List, [], _∷_, _++_, append-assoc}
 use Prim.Native.Nat.{ℕ, suc, _+_, _≤_, _<_}
 use native.Mathlib.Omega.{arith}
 use native.Mathlib.Numerals.{add-one}
@@ -30,6 +30,10 @@ wrote-none s = refl
 -- s, then x, then y
 pub after : (s t u : Spot) (x y : List ℕ) → t ≡ wrote s x → u ≡ wrote t y → u ≡ wrote s (x ++ y)
 after s t u x y e f = f ∙ ap (λ (k : Spot). wrote k y) e ∙ sym (wrote-append s x y)
+
+-- x is there, and y comes with z behind it
+pub also : (s t u : Spot) (x y z : List ℕ) → t ≡ wrote s x → u ≡ wrote t (y ++ z) → u ≡ wrote s (x ++ y ++ z)
+also s t u x y z e f = after s t u x (y ++ z) e f ∙ ap (wrote s) (sym (append-assoc x y z))
 
 -- where the text fits, every byte of it stands in the buffer
 pub wrote-sets : (b : List ℕ) (i : ℕ) (x : List ℕ) → i + length x ≤ length b → wrote (spot b i) x ≡ spot (sets b i x) (i + length x)

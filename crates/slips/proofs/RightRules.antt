@@ -18,7 +18,7 @@ use Rattle.code.specs.declared.Found.the-variants.{Known, Unknown}
 use Rattle.printing.specs.Digits.{hexOf}
 use Rattle.printing.specs.Lines.{LF}
 use Rattle.lines.specs.Line.{Line, line, textOf, instructionIn, saidOf, operandsOf, rxText, ssText}
-use Rattle.lines.specs.Listing.{sizeOf, wrapped, linesIn, listing, stretches, texts, fitting, written, listedFrom, listed}
+use Rattle.lines.specs.Listing.{sizeOf, wrapped, linesIn, listing, stretches, texts, fitting, putOut, listedFrom, listed}
 use Rattle.lines.proofs.Steps.{size-within}
 use Rattle.lines.proofs.AllBytes.{wrapped-same}
 use Rattle.slips.specs.Listings.{Asked, Walked, Rules, walk, more, none, fits, ends, worded, right, operands, rsAll, textBy, saidBy}
@@ -53,7 +53,7 @@ walk-right (suc n) room a (b ∷ bs) =
 
 -- the rules of `worded` with nothing slipped; those of `walked` and `begunBy` are the same
 pub rules-right : (q : Asked) → worded wrapped textOf q ≡ right q
-unfolding listed listedFrom written listing
+unfolding listed listedFrom putOut listing
 rules-right q = go (ltb (q .start) (2 ^ 24)) refl
   where
     go : (t : Bool) → ltb (q .start) (2 ^ 24) ≡ t → worded wrapped textOf q ≡ right q

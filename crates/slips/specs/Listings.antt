@@ -18,14 +18,14 @@ use Rattle.code.specs.Formats.{lengthOf, rxOf, rsOf, ssOf}
 use Rattle.printing.specs.Digits.{digit, digitsOf, hexOf, trimmed, decimalOf}
 use Rattle.printing.specs.Lines.{LF, field}
 use Rattle.lines.specs.Line as line
-use Rattle.lines.specs.Listing.{sizeOf, wrapped, linesIn, listing, stretches, texts, fitting, Answer, written, listedFrom, listed}
+use Rattle.lines.specs.Listing.{sizeOf, wrapped, linesIn, listing, stretches, texts, fitting, Answer, putOut, listedFrom, listed}
 use Rattle.slips.specs.Row.{Row, row}
 
 -- the definitions that this table computes
 unfoldable pub computes : Unit {0}
 unfolding digit digitsOf trimmed decimalOf code.table code.actionOf code.nameOf line.based line.indexed line.hexBytes line.quoted
     line.rrText line.rxText line.rsText line.siText line.ssText line.operandsOf line.instructionIn line.textOf sizeOf linesIn listing stretches texts
-    fitting written listedFrom listed
+    fitting putOut listedFrom listed
 computes = tt
 
 -- a call: what is lent, and the start

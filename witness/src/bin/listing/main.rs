@@ -10,6 +10,7 @@ mod spelling;
 mod told;
 mod unassembled;
 
+use common::status::status;
 use second::listing::{lines, Line};
 use second::operations::{Operation, OPERATIONS};
 use std::path::Path;
@@ -133,12 +134,5 @@ fn run(arguments: &[String]) -> Result<usize, String> {
 
 fn main() -> ExitCode {
     let arguments: Vec<String> = std::env::args().skip(1).collect();
-    match run(&arguments) {
-        Ok(0) => ExitCode::SUCCESS,
-        Ok(_) => ExitCode::from(1),
-        Err(problem) => {
-            eprintln!("listing: {problem}");
-            ExitCode::from(2)
-        }
-    }
+    status("listing", run(&arguments))
 }

@@ -1,4 +1,4 @@
-use Rattle.listing.proofs.Parts.{empty-is-none, unknown-is-none, whole-is-one, other-is-none}
+use Rattle.listing.proofs.Stretches.{empty-is-none, unknown-is-none, whole-is-one, other-is-none}
 use borrow.Author.Needs.{needs}
 use Rattle.listing.proofs.line.instruction_in.Statement.{statement}
 use Rattle.listing.proofs.line.instruction_in.Tie as tie

@@ -5,7 +5,7 @@ use lib.ListN.{length, drop}
 use Rattle.code.specs.Table.{nameOf}
 use Rattle.decode.specs.Names.{nameIn}
 use Rattle.printing.specs.Writing.{spot, wrote}
-use Rattle.listing.proofs.Parts.{name-dot, name-turn, name-end}
+use Rattle.listing.proofs.Loops.{name-dot, name-turn, name-end}
 use borrow.Author.Needs.{needs}
 use Rattle.listing.proofs.line.put_name.Statement.{statement}
 use Rattle.listing.proofs.line.put_name.Tie as tie

@@ -1,4 +1,4 @@
-use Rattle.listing.proofs.Parts.{past-end}
+use Rattle.listing.proofs.Stretches.{past-end}
 use borrow.Author.Needs.{needs}
 use Rattle.listing.proofs.operands.byte_at.Statement.{statement}
 use Rattle.listing.proofs.operands.byte_at.Tie as tie

@@ -3,7 +3,7 @@ use Prim.Native.Nat.{_-_, _≤_}
 use lib.ListN.{length, drop}
 use Rattle.printing.specs.Writing.{spot, wrote}
 use Rattle.lines.specs.Line.{hexBytes}
-use Rattle.listing.proofs.Parts.{bytes-turn, bytes-end}
+use Rattle.listing.proofs.Loops.{bytes-turn, bytes-end}
 use borrow.Author.Needs.{needs}
 use Rattle.listing.proofs.operands.put_bytes.Statement.{statement}
 use Rattle.listing.proofs.operands.put_bytes.Tie as tie
