@@ -11,7 +11,7 @@ use Rattle.lines.specs.Line.{Line, line, textOf}
 use Rattle.lines.specs.Listing.{sizeOf, wrapped, listing, stretches, texts, fitting, Answer, putOut, listedFrom, listed}
 use Rattle.lines.proofs.Steps.{listing-some}
 use Rattle.lines.proofs.AllBytes.{all-bytes, wrapped-again, wrapped-same, wrapped-small}
-use Rattle.lines.proofs.Cut.{Over, cut}
+use Rattle.lines.proofs.Parted.{Over, parted}
 use Rattle.lines.proofs.GoesOn.{behind, goes-on, bytes-go-on, bytes-inside}
 
 texts-append : (ls ms : List Line) → texts (ls ++ ms) ≡ texts ls ++ texts ms
@@ -51,7 +51,7 @@ front-from code at start out i =
     let n = length (stretches ls) in
     let k = length (texts ls) in
     let ms = listing (wrapped (a + n)) (drop n rest) in
-    let c = cut room (listing a rest) in
+    let c = parted room (listing a rest) in
     let h = wrapped-small (start + at) in
     let taken : take (length ls) (listing a rest) ≡ ls = ap (take (length ls)) (c .parts) ∙ take-append-seam ls (c .over) in
     record {

@@ -9,7 +9,7 @@ use Rattle.lines.specs.Line.{Line, line}
 use Rattle.lines.specs.Listing.{sizeOf, wrapped, listing, stretches, fitting}
 use Rattle.lines.proofs.Steps.{rest, size-within, listing-none, listing-some}
 use Rattle.lines.proofs.AllBytes.{all-bytes, wrapped-again, wrapped-same, wrapped-small}
-use Rattle.lines.proofs.Cut.{cut}
+use Rattle.lines.proofs.Parted.{parted}
 
 stretches-append : (ls ms : List Line) → stretches (ls ++ ms) ≡ stretches ls ++ stretches ms
 unfolding stretches
@@ -39,7 +39,7 @@ module _ (room a : ℕ) (code : List ℕ) (h : a < 2 ^ 24) where
   pub goes-on : let ls = fitting room (listing a code) in let n = length (stretches ls) in
       listing a code ≡ ls ++ listing (wrapped (a + n)) (drop n code)
   goes-on =
-      let c = cut room (listing a code) in
+      let c = parted room (listing a code) in
       let ls = fitting room (listing a code) in
       c .parts ∙ ap (λ (ms : List Line). ls ++ ms) (behind a h code ls (c .over) (c .parts))
 

@@ -1,6 +1,6 @@
 pub mod Steps
 pub mod AllBytes
-pub mod Cut
+pub mod Parted
 pub mod GoesOn
 pub mod Fronts
 pub mod Everything

@@ -107,11 +107,11 @@ module _ (b c : ℕ) (h : c < 256) where
   base-value k = decimal-value (baseOf (b * 256 + c)) (omega arith)
 
 -- the bytes from one on, one by one
-abbrev listedFrom : ℕ → ℕ → List ℕ → List ℕ
-listedFrom i zero bs = []
-listedFrom i (suc n) bs = getD bs i 0 ∷ listedFrom (suc i) n bs
+abbrev oneByOne : ℕ → ℕ → List ℕ → List ℕ
+oneByOne i zero bs = []
+oneByOne i (suc n) bs = getD bs i 0 ∷ oneByOne (suc i) n bs
 
-laid : (n i : ℕ) (bs : List ℕ) → length bs ≡ i + n → listedFrom i n bs ≡ drop i bs
+laid : (n i : ℕ) (bs : List ℕ) → length bs ≡ i + n → oneByOne i n bs ≡ drop i bs
 laid zero i bs h = let k : length bs ≤ i = omega arith in sym (drop-of-length-le bs k)
 laid (suc n) i bs h = rw (drop-cons bs i 0 (omega arith)) (ap (λ (cs : List ℕ). getD bs i 0 ∷ cs) (laid n (suc i) bs (omega arith)))
 

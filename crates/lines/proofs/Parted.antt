@@ -17,14 +17,14 @@ Over room [] = Unit {0}
 Over room (l ∷ ls) = room < length (textOf l)
 
 -- lines parted into those of a front, which fit, and others, of which the first does not fit behind them
-pub record Cut (room : ℕ) (ls front : List Line) : Type 0 where
+pub record Parted (room : ℕ) (ls front : List Line) : Type 0 where
   pub over : List Line
   pub parts : ls ≡ front ++ over
   pub fits : length (texts front) ≤ room
   pub full : Over (room - length (texts front)) over
 
-step : (room : ℕ) (l : Line) (ls front : List Line) → Cut (room - length (textOf l)) ls front
-    → (t : Bool) → leb (length (textOf l)) room ≡ t → Cut room (l ∷ ls) (pick t (l ∷ front) [])
+step : (room : ℕ) (l : Line) (ls front : List Line) → Parted (room - length (textOf l)) ls front
+    → (t : Bool) → leb (length (textOf l)) room ≡ t → Parted room (l ∷ ls) (pick t (l ∷ front) [])
 unfolding texts
 step room l ls front c true e =
     let both = length-append (textOf l) (texts front) in
@@ -37,9 +37,9 @@ step room l ls front c true e =
 step room l ls front c false e =
     record { over = l ∷ ls; parts = refl; fits = omega arith; full = omega (arith, leb-false (length (textOf l)) room e) }
 
-pub cut : (room : ℕ) (ls : List Line) → Cut room ls (fitting room ls)
+pub parted : (room : ℕ) (ls : List Line) → Parted room ls (fitting room ls)
 unfolding fitting texts
-cut room [] = record { over = []; parts = refl; fits = omega arith; full = tt }
-cut room (l ∷ ls) =
+parted room [] = record { over = []; parts = refl; fits = omega arith; full = tt }
+parted room (l ∷ ls) =
     let size = length (textOf l) in
-    step room l ls (fitting (room - size) ls) (cut (room - size) ls) (leb size room) refl
+    step room l ls (fitting (room - size) ls) (parted (room - size) ls) (leb size room) refl
