@@ -3,17 +3,18 @@ use mathlib.Core.Path.{_≡_, refl}
 use mathlib.Core.List.{List, [], _∷_, map}
 use Prim.Native.Nat.{ℕ}
 use Rattle.words.specs.declared.Res.{Res}
-use Rattle.words.specs.declared.Alu.the-variants.{Test, Complement, Positive, Negative, Add, Subtract, Compare, AddLogical, SubtractLogical, CompareLogical}
+use Rattle.words.specs.declared.Alu.the-variants.{Test, Complement, Positive, Negative, Add, Subtract, Compare}
+use Rattle.words.specs.declared.Alu.the-variants.{AddLogical, SubtractLogical, CompareLogical}
 use Rattle.words.specs.Whole.{spread, overflows}
 use Rattle.words.specs.Codes.{maskCode, signCode, compareSigned, compareBits, zeroCode}
 use Rattle.words.specs.Combine.{combineOf, signedResult, carried, shiftedLeft, shiftedRight}
 
 -- what the definitions give, and what the document says
-record Case : Type 0 where
-  given : List ℕ
-  said : List ℕ
+pub record Case : Type 0 where
+  pub given : List ℕ
+  pub said : List ℕ
 
-abbrev word-and-code : Res → ℕ → ℕ → Case
+abbrev pub word-and-code : Res → ℕ → ℕ → Case
 word-and-code r value code = record { given = r .value ∷ r .code ∷ []; said = value ∷ code ∷ [] }
 
 abbrev number : ℕ → ℕ → Case

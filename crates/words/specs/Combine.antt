@@ -1,12 +1,12 @@
 -- What an instruction of two word operands makes of them: the word, the code, and whether a signed result overflowed (in the base
 -- overflow shows in the code alone). `a` is the first operand, `b` the second, `cc` the code as it was.
-use mathlib.Core.Bool.{Bool, false}
+use mathlib.Core.Bool.{false}
 use Prim.Native.Nat.{ℕ, _+_, _-_, _*_, _/_, _%_, _^_}
-use lib.Dec.{eqb, ltb}
+use lib.Dec.{ltb}
 use lib.Bits.{bitAnd, bitOr, bitXor}
-use lib.IntN.{ℤ, _+ℤ_, _-ℤ_, negℤ}
+use lib.IntN.{ℤ, _+ℤ_, _-ℤ_, _*ℤ_, negℤ}
 use Rattle.words.specs.declared.Alu.{Alu}
-use Rattle.words.specs.declared.Alu.the-variants.{Load, Test, Complement, Positive, Negative, Add, Subtract, Compare, AddLogical, SubtractLogical, CompareLogical, Bits}
+use Rattle.words.specs.declared.Alu.the-variants.{Load, Test, Complement, Positive, Negative, Add, Subtract, Compare, AddLogical, SubtractLogical, CompareLogical, Bits, LowProduct}
 use Rattle.words.specs.declared.Logic.{Logic}
 use Rattle.words.specs.declared.Logic.the-variants.{And, Or, Xor}
 use Rattle.words.specs.declared.Res.{Res}
@@ -34,7 +34,7 @@ logicOf Or a b = bitOr a b
 logicOf Xor a b = bitXor a b
 
 unfoldable pub combineOf : Alu → ℕ → ℕ → ℕ → Res
--- LR, L: L3366. The code stays
+-- LR, L: L3366. LH: L3398. The code stays
 combineOf Load a b cc = resultOf b cc
 -- LTR: L3425
 combineOf Test a b cc = signedResult (signed wordTop b)
@@ -44,11 +44,11 @@ combineOf Complement a b cc = signedResult (negℤ (signed wordTop b))
 combineOf Positive a b cc = signedResult (magnitude (signed wordTop b))
 -- LNR: L3510
 combineOf Negative a b cc = signedResult (negℤ (magnitude (signed wordTop b)))
--- AR, A: L3566
+-- AR, A: L3566. AH: L3603
 combineOf Add a b cc = signedResult (signed wordTop a +ℤ signed wordTop b)
--- SR, S: L3669
+-- SR, S: L3669. SH: L3706
 combineOf Subtract a b cc = signedResult (signed wordTop a -ℤ signed wordTop b)
--- CR, C: L3774. A compare leaves the first operand as it is
+-- CR, C: L3774. CH: L3807. A compare leaves the first operand as it is
 combineOf Compare a b cc = resultOf a (compareSigned (signed wordTop a) (signed wordTop b))
 -- ALR, AL: L3635
 combineOf AddLogical a b cc = carried (a + b)
@@ -58,6 +58,8 @@ combineOf SubtractLogical a b cc = carried (a + (4294967295 - b) + 1)
 combineOf CompareLogical a b cc = resultOf a (compareBits a b)
 -- NR, N: L4803. OR, O: L4863. XR, X: L4919
 combineOf (Bits l) a b cc = resultOf (logicOf l a b) (zeroCode (logicOf l a b))
+-- MH: L3872. The product's low 32 bits; nothing tells of the others, and the code stays
+combineOf LowProduct a b cc = resultOf (kept wordTop (signed wordTop a *ℤ signed wordTop b)) cc
 
 -- SLL: L5297. SRL: L5325. The amount is the low six bits of n
 unfoldable pub shiftedLeft : ℕ → ℕ → ℕ

@@ -7,12 +7,15 @@ use lib.IntN.{ℤ, pos, negsuc, negℤ, subℕ, natAbs}
 use lib.Signed.{ltZ}
 use Rattle.words.specs.Pick.{pick, either}
 
--- the weight of the sign bit, in a word and in a halfword
+-- the weight of the sign bit, in a word, in a halfword, and in the double word of a pair of registers
 abbrev pub wordTop : ℕ
 wordTop = 2147483648
 
 abbrev pub halfTop : ℕ
 halfTop = 32768
+
+abbrev pub doubleTop : ℕ
+doubleTop = 9223372036854775808
 
 -- what the bits a stand for: a itself, or a less the number of values where the sign bit is set
 unfoldable pub signed : ℕ → ℕ → ℤ
@@ -31,7 +34,7 @@ overflows top z = either (ltZ z (negℤ (pos top))) (ltZ (pos (top - 1)) z)
 abbrev pub magnitude : ℤ → ℤ
 magnitude z = pos (natAbs z)
 
--- a halfword that a load widens: the sign bit goes to the 16 places on its left (001, L3422)
+-- a halfword operand as a word: the sign bit goes to the 16 places on its left (001, L3272, L3422)
 unfoldable pub spread : ℕ → ℕ
 unfolding signed kept
 spread h = kept wordTop (signed halfTop h)
