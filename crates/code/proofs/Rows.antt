@@ -1,4 +1,4 @@
--- The whole table at once: fifty rows, no code twice, and each row's format as its code's top two bits say. So the length is document
+-- The whole table at once: sixty-two rows, no code twice, and each row's format as its code's top two bits say. So the length is document
 -- 01's: 00 two bytes, 01 and 10 four, 11 six.
 use Prim.Native.Nat.{ℕ, _/_}
 use mathlib.Core.Path.{_≡_, refl}
@@ -32,6 +32,6 @@ abbrev unsound : List Row → List ℕ
 unsound [] = []
 unsound (r ∷ rs) = let rest = unsound rs in pick (sound r rs) rest (r .code ∷ rest)
 
-rows : length table ∷ unsound table ≡ 50 ∷ []
+rows : length table ∷ unsound table ≡ 62 ∷ []
 unfolding table
 rows = refl

@@ -1,5 +1,6 @@
--- The base set: every operation that the machine knows, in document 01's order, with the operation code and the name of the manual's
--- Appendix A (the line beside each row). What an action does is in the crate machine, by format: Rr, Rx, Rs, Si, Ss.
+-- Every operation that the machine knows: the base set in document 01's order, then what requests of document 02 added, in theirs, with
+-- the operation code and the name of the manual's Appendix A (the line beside each row). What an action does is in the crate machine, by
+-- format: Rr, Rx, Rs, Si, Ss.
 use Prim.Native.Nat.{ℕ}
 use Prim.Native.String.{String}
 use mathlib.Core.List.{List, [], _∷_}
@@ -7,14 +8,16 @@ use lib.Dec.{eqb}
 use Rattle.words.specs.Pick.{pick}
 use Rattle.words.specs.Said.{Said, says}
 use Rattle.words.specs.Ascii.{ascii}
-use Rattle.words.specs.declared.Alu.the-variants.{Load, Test, Complement, Positive, Negative, Add, Subtract, Compare, AddLogical, SubtractLogical, CompareLogical, Bits}
+use Rattle.words.specs.declared.Alu.the-variants.{Load, Test, Complement, Positive, Negative, Add, Subtract, Compare, AddLogical, SubtractLogical, CompareLogical, Bits, LowProduct}
 use Rattle.words.specs.declared.Logic.the-variants.{And, Or, Xor}
-use Rattle.code.specs.declared.Operand.the-variants.{WordWith, HalfSpread, ByteInserted}
+use Rattle.words.specs.declared.PairOp.the-variants.{Multiply, Divide}
+use Rattle.words.specs.declared.Direction.the-variants.{Left, Right}
+use Rattle.code.specs.declared.Operand.the-variants.{WordWith, HalfWith, ByteInserted}
 use Rattle.code.specs.declared.Width.the-variants.{Word, Half, Byte}
 use Rattle.code.specs.declared.Branch.the-variants.{OnCondition, AndLink, OnCount}
-use Rattle.code.specs.declared.RrAction.the-variants.{Registers, RegisterBranch}
-use Rattle.code.specs.declared.RxAction.the-variants.{Taking, Storing, LoadAddress, AddressBranch}
-use Rattle.code.specs.declared.RsAction.the-variants.{LoadMultiple, StoreMultiple, ShiftLeft, ShiftRight, BranchHigh, BranchLowEqual}
+use Rattle.code.specs.declared.RrAction.the-variants.{Registers, RegisterBranch, PairAndRegister}
+use Rattle.code.specs.declared.RxAction.the-variants.{Taking, Storing, LoadAddress, AddressBranch, PairAndWord}
+use Rattle.code.specs.declared.RsAction.the-variants.{LoadMultiple, StoreMultiple, ShiftLeft, ShiftRight, BranchHigh, BranchLowEqual, ShiftSigned, ShiftDouble}
 use Rattle.code.specs.declared.SiAction.the-variants.{CompareByte, TestMask, BitsByte, MoveByte}
 use Rattle.code.specs.declared.SsAction.the-variants.{MoveField, CompareField}
 use Rattle.code.specs.declared.Action.{Action}
@@ -35,7 +38,7 @@ table =
     -- Load and store
     row 0x18 "LR" (Rr (Registers Load))  -- L6490
     ∷ row 0x58 "L" (Rx (Taking (WordWith Load)))  -- L6489
-    ∷ row 0x48 "LH" (Rx (Taking HalfSpread))  -- L6484
+    ∷ row 0x48 "LH" (Rx (Taking (HalfWith Load)))  -- L6484
     ∷ row 0x12 "LTR" (Rr (Registers Test))  -- L6488
     ∷ row 0x13 "LCR" (Rr (Registers Complement))  -- L6473
     ∷ row 0x10 "LPR" (Rr (Registers Positive))  -- L6487
@@ -86,6 +89,19 @@ table =
     ∷ row 0x46 "BCT" (Rx (AddressBranch OnCount))  -- L6594
     ∷ row 0x86 "BXH" (Rs BranchHigh)  -- L6596
     ∷ row 0x87 "BXLE" (Rs BranchLowEqual)  -- L6610
+    -- E2: multiply, divide and the signed shifts
+    ∷ row 0x1c "MR" (Rr (PairAndRegister Multiply))  -- L6493
+    ∷ row 0x5c "M" (Rx (PairAndWord Multiply))  -- L6492
+    ∷ row 0x4c "MH" (Rx (Taking (HalfWith LowProduct)))  -- L6491
+    ∷ row 0x1d "DR" (Rr (PairAndRegister Divide))  -- L6472
+    ∷ row 0x5d "D" (Rx (PairAndWord Divide))  -- L6471
+    ∷ row 0x4a "AH" (Rx (Taking (HalfWith Add)))  -- L6461
+    ∷ row 0x4b "SH" (Rx (Taking (HalfWith Subtract)))  -- L6502
+    ∷ row 0x49 "CH" (Rx (Taking (HalfWith Compare)))  -- L6466
+    ∷ row 0x8b "SLA" (Rs (ShiftSigned Left))  -- L6497
+    ∷ row 0x8a "SRA" (Rs (ShiftSigned Right))  -- L6498
+    ∷ row 0x8f "SLDA" (Rs (ShiftDouble Left))  -- L6494
+    ∷ row 0x8e "SRDA" (Rs (ShiftDouble Right))  -- L6495
     ∷ []
 
 -- the action of the first row with this code

@@ -1,11 +1,13 @@
 // The instruction code: actions by format, and the fields of an instruction. What they mean is in specs; the crate decode finds them.
 use words::Alu;
+use words::Direction;
 use words::Logic;
+use words::PairOp;
 
 // What a load takes from memory, and what it does with it.
 pub enum Operand {
     WordWith(Alu),
-    HalfSpread,
+    HalfWith(Alu),
     ByteInserted,
 }
 
@@ -24,6 +26,7 @@ pub enum Branch {
 pub enum RrAction {
     Registers(Alu),
     RegisterBranch(Branch),
+    PairAndRegister(PairOp),
 }
 
 pub enum RxAction {
@@ -31,6 +34,7 @@ pub enum RxAction {
     Storing(Width),
     LoadAddress,
     AddressBranch(Branch),
+    PairAndWord(PairOp),
 }
 
 pub enum RsAction {
@@ -40,6 +44,8 @@ pub enum RsAction {
     ShiftRight,
     BranchHigh,
     BranchLowEqual,
+    ShiftSigned(Direction),
+    ShiftDouble(Direction),
 }
 
 pub enum SiAction {

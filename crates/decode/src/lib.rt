@@ -15,7 +15,9 @@ use code::SsAction;
 use code::SsFields;
 use code::Width;
 use words::Alu;
+use words::Direction;
 use words::Logic;
+use words::PairOp;
 ghost use mathlib.Core.Path.{_≡_};
 ghost use Rattle.code.specs.Table.{actionOf};
 ghost use Rattle.code.specs.Formats.{lengthOf, rrOf, rxOf, rsOf, siOf, ssOf};
@@ -82,7 +84,7 @@ pub fn action_of(op: u8) -> Found
     match op {
         0x18 => Found::Known(Action::Rr(RrAction::Registers(Alu::Load))), // LR
         0x58 => Found::Known(Action::Rx(RxAction::Taking(Operand::WordWith(Alu::Load)))), // L
-        0x48 => Found::Known(Action::Rx(RxAction::Taking(Operand::HalfSpread))), // LH
+        0x48 => Found::Known(Action::Rx(RxAction::Taking(Operand::HalfWith(Alu::Load)))), // LH
         0x12 => Found::Known(Action::Rr(RrAction::Registers(Alu::Test))), // LTR
         0x13 => Found::Known(Action::Rr(RrAction::Registers(Alu::Complement))), // LCR
         0x10 => Found::Known(Action::Rr(RrAction::Registers(Alu::Positive))), // LPR
@@ -134,6 +136,18 @@ pub fn action_of(op: u8) -> Found
         0x46 => Found::Known(Action::Rx(RxAction::AddressBranch(Branch::OnCount))), // BCT
         0x86 => Found::Known(Action::Rs(RsAction::BranchHigh)), // BXH
         0x87 => Found::Known(Action::Rs(RsAction::BranchLowEqual)), // BXLE
+        0x1c => Found::Known(Action::Rr(RrAction::PairAndRegister(PairOp::Multiply))), // MR
+        0x5c => Found::Known(Action::Rx(RxAction::PairAndWord(PairOp::Multiply))), // M
+        0x4c => Found::Known(Action::Rx(RxAction::Taking(Operand::HalfWith(Alu::LowProduct)))), // MH
+        0x1d => Found::Known(Action::Rr(RrAction::PairAndRegister(PairOp::Divide))), // DR
+        0x5d => Found::Known(Action::Rx(RxAction::PairAndWord(PairOp::Divide))), // D
+        0x4a => Found::Known(Action::Rx(RxAction::Taking(Operand::HalfWith(Alu::Add)))), // AH
+        0x4b => Found::Known(Action::Rx(RxAction::Taking(Operand::HalfWith(Alu::Subtract)))), // SH
+        0x49 => Found::Known(Action::Rx(RxAction::Taking(Operand::HalfWith(Alu::Compare)))), // CH
+        0x8b => Found::Known(Action::Rs(RsAction::ShiftSigned(Direction::Left))), // SLA
+        0x8a => Found::Known(Action::Rs(RsAction::ShiftSigned(Direction::Right))), // SRA
+        0x8f => Found::Known(Action::Rs(RsAction::ShiftDouble(Direction::Left))), // SLDA
+        0x8e => Found::Known(Action::Rs(RsAction::ShiftDouble(Direction::Right))), // SRDA
         _ => Found::Unknown,
     }
 }

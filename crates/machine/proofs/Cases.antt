@@ -1,16 +1,17 @@
--- Document 01's checks at the edges: one table, the starred ones first, and one proof, by computation.
+-- Document 01's checks at the edges, the starred ones first, and some of E2's: one table, and one proof, by computation.
 -- Instructions are run from memory, by the machine's own step and run.
 use Prim.Native.Nat.{ℕ, suc}
 use mathlib.Core.Path.{_≡_, refl}
-use mathlib.Core.Bool.{Bool, true, false}
 use mathlib.Core.List.{List, [], _∷_, _++_}
-use lib.Dec.{eqb}
 use lib.ListN.{getD, take, drop, replicate}
 use lib.Seq.{sets}
-use Rattle.words.specs.Pick.{pick, both}
+use Rattle.words.specs.Pick.{pick}
+use Rattle.words.specs.Ascii.{same}
 use Rattle.words.specs.Whole.{signed, kept, overflows, spread}
-use Rattle.words.specs.Codes.{signCode, zeroCode}
+use Rattle.words.specs.Codes.{signCode, compareSigned, zeroCode}
 use Rattle.words.specs.Combine.{signedResult, carried, combineOf, shiftedLeft}
+use Rattle.words.specs.Wide.{productOf, quotientOf, remainderOf, pairOf}
+use Rattle.words.specs.SignedShifts.{signBit, leftward, rightward, shiftedOf}
 use Rattle.pages.specs.declared.Access.the-variants.{Load}
 use Rattle.pages.specs.declared.Look.{Look}
 use Rattle.pages.specs.Word.{bitU, bitS, bitE, bitM, bitH, bitsX, frame, pageOf, dispOf, next, base, real, wordOf, accessed, written}
@@ -22,21 +23,23 @@ use Rattle.machine.specs.Prog.{interp}
 use Rattle.machine.specs.Run.{run}
 use Rattle.machine.specs.Fields.{looks, gets, puts, moves, loading, storing, halfword}
 use Rattle.machine.specs.Cpu.{reg, ahead, part, address}
+use Rattle.machine.specs.Pairs.{pair, intoPair}
 use Rattle.machine.specs.Branches.{chosen, link, lessOne, branch}
 use Rattle.machine.specs.Rr.{rr}
 use Rattle.machine.specs.Rx.{taken, rx}
-use Rattle.machine.specs.Rs.{rs}
+use Rattle.machine.specs.Rs.{rs, shiftedWord, shiftedPair}
 use Rattle.machine.specs.Ss.{ss}
 use Rattle.machine.specs.Step.{act, step}
 use Rattle.machine.specs.Machine.{Given, Outcome, given, proper, stepOutcome, runOutcome}
 
 -- the definitions that the cases compute
 unfoldable computes : Unit {0}
-unfolding signed kept overflows spread signCode zeroCode signedResult carried combineOf shiftedLeft
+unfolding same signed kept overflows spread signCode compareSigned zeroCode signedResult carried combineOf shiftedLeft
+    productOf quotientOf remainderOf pairOf signBit leftward rightward shiftedOf
     bitU bitS bitE bitM bitH bitsX frame pageOf dispOf next base real wordOf accessed written tests.sixTests tests.tests lookOf
     accessedAt writtenAt readByte writeByte code.table code.actionOf
     interp run looks gets puts moves loading storing halfword reg ahead part address chosen link lessOne branch
-    rr taken rx rs ss act step proper stepOutcome runOutcome
+    pair intoPair rr taken rx rs shiftedWord shiftedPair ss act step proper stepOutcome runOutcome
 computes = tt
 
 -- n zeros, but these values from place i on
@@ -70,6 +73,10 @@ seen page o =
 -- the same of page 10, and the six bytes eight on from its first
 abbrev moved : Outcome → List ℕ
 moved o = seen 10 o ++ take 6 (drop 12296 (o .mem))
+
+-- the same of page 10, and the pair of registers 2 and 3
+abbrev seenPair : Outcome → List ℕ
+seenPair o = seen 10 o ++ take 2 (drop 2 (o .regs))
 
 -- a look-up's number and its real address, or the place of its refusal
 abbrev found : Look → List ℕ
@@ -151,14 +158,61 @@ beside =
     ∷ case (seen 10 (stepOutcome (started [] 110 0x3003 [] 0xa001))) (2 ∷ 0xa001 ∷ 0 ∷ 0xa001 ∷ 0 ∷ 0 ∷ 0 ∷ [])
     ∷ []
 
-abbrev cases : List Case
-cases = starred ++ unstarred ++ beside
+-- E2: what a pair holds afterwards, and the order of refusals. Register 1 is 0 where it is not shifted or added to
+abbrev ofPairs : List Case
+ofPairs =
+    -- 26: MR 2,4: -3 times 5; what register 2 held is not looked at
+    case (seenPair (doing 0x3003 (0x1c ∷ 0x24 ∷ []) (0 ∷ 7 ∷ 0xfffffffd ∷ 5 ∷ [])))
+    (0 ∷ 0 ∷ 1 ∷ 0xa002 ∷ 0 ∷ 0 ∷ 0x7003 ∷ 0xffffffff ∷ 0xfffffff1 ∷ [])
+    -- 27: M 2,8(4): 80000000 squared
+    ∷ case (seenPair (doing 0x3003 (0x5c ∷ 0x20 ∷ 0x40 ∷ 0x08 ∷ 0 ∷ 0 ∷ 0 ∷ 0 ∷ 0x80 ∷ 0 ∷ 0 ∷ 0 ∷ []) (0 ∷ 0 ∷ 0x80000000 ∷ 0xa000 ∷ [])))
+    (0 ∷ 0 ∷ 1 ∷ 0xa004 ∷ 0 ∷ 0 ∷ 0x7003 ∷ 0x40000000 ∷ 0 ∷ [])
+    -- 28, 29: DR 2,4: -7 by 2; 2^31 by -1, whose quotient just fits
+    ∷ case (seenPair (doing 0x3003 (0x1d ∷ 0x24 ∷ []) (0 ∷ 0xffffffff ∷ 0xfffffff9 ∷ 2 ∷ [])))
+    (0 ∷ 0 ∷ 1 ∷ 0xa002 ∷ 0 ∷ 0 ∷ 0x7003 ∷ 0xffffffff ∷ 0xfffffffd ∷ [])
+    ∷ case (seenPair (doing 0x3003 (0x1d ∷ 0x24 ∷ []) (0 ∷ 0 ∷ 0x80000000 ∷ 0xffffffff ∷ [])))
+    (0 ∷ 0 ∷ 1 ∷ 0xa002 ∷ 0 ∷ 0 ∷ 0x7003 ∷ 0 ∷ 0x80000000 ∷ [])
+    -- 30: DR 2,4: 2^31 by 1 does not fit
+    ∷ case (seenPair (doing 0x3003 (0x1d ∷ 0x24 ∷ []) (0 ∷ 0 ∷ 0x80000000 ∷ 1 ∷ [])))
+    (8 ∷ 0xa000 ∷ 0 ∷ 0xa000 ∷ 0 ∷ 0 ∷ 0x3003 ∷ 0 ∷ 0x80000000 ∷ [])
+    -- 31: D 2,8(4) by a word of zeros: 8, and no mark
+    ∷ case (seenPair (doing 0x3003 (0x5d ∷ 0x20 ∷ 0x40 ∷ 0x08 ∷ []) (0 ∷ 0 ∷ 9 ∷ 0xa000 ∷ [])))
+    (8 ∷ 0xa000 ∷ 0 ∷ 0xa000 ∷ 0 ∷ 0 ∷ 0x3003 ∷ 0 ∷ 9 ∷ [])
+    -- 32, 33, 34: D 3,10(4), D 2,10(4) and D 2,8(4): odd before the boundary, the boundary before an absent page, that before 8
+    ∷ case (seenPair (doing 0x3003 (0x5d ∷ 0x30 ∷ 0x40 ∷ 0x0a ∷ []) (0 ∷ 0 ∷ 9 ∷ 0xb000 ∷ [])))
+    (2 ∷ 0xa000 ∷ 0 ∷ 0xa000 ∷ 0 ∷ 0 ∷ 0x3003 ∷ 0 ∷ 9 ∷ [])
+    ∷ case (seenPair (doing 0x3003 (0x5d ∷ 0x20 ∷ 0x40 ∷ 0x0a ∷ []) (0 ∷ 0 ∷ 9 ∷ 0xb000 ∷ [])))
+    (2 ∷ 0xb00a ∷ 0 ∷ 0xa000 ∷ 0 ∷ 0 ∷ 0x3003 ∷ 0 ∷ 9 ∷ [])
+    ∷ case (seenPair (doing 0x3003 (0x5d ∷ 0x20 ∷ 0x40 ∷ 0x08 ∷ []) (0 ∷ 0 ∷ 9 ∷ 0xb000 ∷ [])))
+    (3 ∷ 0xb008 ∷ 0 ∷ 0xa000 ∷ 0 ∷ 0 ∷ 0x3003 ∷ 0 ∷ 9 ∷ [])
+    -- 35, 36, 37: SLDA 2,1, over the middle and past the end; SRDA 2,32 of a negative number; SRDA 3,0
+    ∷ case (seenPair (doing 0x3003 (0x8f ∷ 0x20 ∷ 0x00 ∷ 0x01 ∷ []) (0 ∷ 0x40000000 ∷ 0x80000000 ∷ [])))
+    (0 ∷ 0 ∷ 1 ∷ 0xa004 ∷ 3 ∷ 0 ∷ 0x7003 ∷ 1 ∷ 0 ∷ [])
+    ∷ case (seenPair (doing 0x3003 (0x8e ∷ 0x20 ∷ 0x00 ∷ 0x20 ∷ []) (0 ∷ 0xfffffffe ∷ 1 ∷ [])))
+    (0 ∷ 0 ∷ 1 ∷ 0xa004 ∷ 1 ∷ 0 ∷ 0x7003 ∷ 0xffffffff ∷ 0xfffffffe ∷ [])
+    ∷ case (seenPair (doing 0x3003 (0x8e ∷ 0x30 ∷ 0x00 ∷ 0x00 ∷ []) (0 ∷ 5 ∷ 6 ∷ [])))
+    (2 ∷ 0xa000 ∷ 0 ∷ 0xa000 ∷ 0 ∷ 0 ∷ 0x3003 ∷ 5 ∷ 6 ∷ [])
+    ∷ []
 
-abbrev same : List ℕ → List ℕ → Bool
-same [] [] = true
-same [] (y ∷ ys) = false
-same (x ∷ xs) [] = false
-same (x ∷ xs) (y ∷ ys) = both (eqb x y) (same xs ys)
+-- E2: single registers and halfwords
+abbrev ofSingles : List Case
+ofSingles =
+    -- 38, 39: SLA 1,1 of 40000000; SRA 1,63 of 80000000
+    case (seen 10 (doing 0x3003 (0x8b ∷ 0x10 ∷ 0x00 ∷ 0x01 ∷ []) (0x40000000 ∷ []))) (0 ∷ 0 ∷ 1 ∷ 0xa004 ∷ 3 ∷ 0 ∷ 0x7003 ∷ [])
+    ∷ case (seen 10 (doing 0x3003 (0x8a ∷ 0x10 ∷ 0x00 ∷ 0x3f ∷ []) (0x80000000 ∷ []))) (0 ∷ 0 ∷ 1 ∷ 0xa004 ∷ 1 ∷ 0xffffffff ∷ 0x7003 ∷ [])
+    -- 40 to 43: AH, SH, CH and MH 1,8(2) with the halfword 8000, which is -32,768
+    ∷ case (seen 10 (doing 0x3003 (0x4a ∷ 0x10 ∷ 0x20 ∷ 0x08 ∷ 0 ∷ 0 ∷ 0 ∷ 0 ∷ 0x80 ∷ 0 ∷ []) (0x80000000 ∷ 0xa000 ∷ [])))
+    (0 ∷ 0 ∷ 1 ∷ 0xa004 ∷ 3 ∷ 0x7fff8000 ∷ 0x7003 ∷ [])
+    ∷ case (seen 10 (doing 0x3003 (0x4b ∷ 0x10 ∷ 0x20 ∷ 0x08 ∷ 0 ∷ 0 ∷ 0 ∷ 0 ∷ 0x80 ∷ 0 ∷ []) (1 ∷ 0xa000 ∷ [])))
+    (0 ∷ 0 ∷ 1 ∷ 0xa004 ∷ 2 ∷ 0x8001 ∷ 0x7003 ∷ [])
+    ∷ case (seen 10 (doing 0x3003 (0x49 ∷ 0x10 ∷ 0x20 ∷ 0x08 ∷ 0 ∷ 0 ∷ 0 ∷ 0 ∷ 0x80 ∷ 0 ∷ []) (0xffff7fff ∷ 0xa000 ∷ [])))
+    (0 ∷ 0 ∷ 1 ∷ 0xa004 ∷ 1 ∷ 0xffff7fff ∷ 0x7003 ∷ [])
+    ∷ case (seen 10 (doing 0x3003 (0x4c ∷ 0x10 ∷ 0x20 ∷ 0x08 ∷ 0 ∷ 0 ∷ 0 ∷ 0 ∷ 0x80 ∷ 0 ∷ []) (0x20001 ∷ 0xa000 ∷ [])))
+    (0 ∷ 0 ∷ 1 ∷ 0xa004 ∷ 0 ∷ 0xffff8000 ∷ 0x7003 ∷ [])
+    ∷ []
+
+abbrev cases : List Case
+cases = starred ++ unstarred ++ beside ++ ofPairs ++ ofSingles
 
 -- the places, from n on, of the cases whose answer is not the expected one
 abbrev failing : ℕ → List Case → List ℕ

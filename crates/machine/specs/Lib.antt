@@ -5,6 +5,7 @@ pub mod Run
 pub mod Store
 pub mod Fields
 pub mod Cpu
+pub mod Pairs
 pub mod Branches
 pub mod Rr
 pub mod Rx

@@ -2,15 +2,19 @@
 use Prim.Native.Nat.{ℕ, zero, suc, _+_, _-_, _*_, _/_, _%_}
 use mathlib.Core.Bool.{Bool, not}
 use lib.Signed.{ltZ}
-use Rattle.words.specs.Whole.{wordTop, signed}
+use Rattle.words.specs.Whole.{wordTop, doubleTop, signed}
 use Rattle.words.specs.Combine.{shiftedLeft, shiftedRight}
+use Rattle.words.specs.declared.Direction.{Direction}
+use Rattle.words.specs.declared.Shifted.{Shifted}
+use Rattle.words.specs.SignedShifts.{shiftedOf}
 use Rattle.pages.specs.declared.Access.the-variants.{Load, Store}
 use Rattle.code.specs.declared.RsFields.{RsFields}
 use Rattle.code.specs.declared.RsAction.{RsAction}
-use Rattle.code.specs.declared.RsAction.the-variants.{LoadMultiple, StoreMultiple, ShiftLeft, ShiftRight, BranchHigh, BranchLowEqual}
+use Rattle.code.specs.declared.RsAction.the-variants.{LoadMultiple, StoreMultiple, ShiftLeft, ShiftRight, BranchHigh, BranchLowEqual, ShiftSigned, ShiftDouble}
 use Rattle.machine.specs.Prog.{Prog, done}
 use Rattle.machine.specs.Fields.{looks, gets, puts, aligned}
-use Rattle.machine.specs.Cpu.{Cpu, reg, withReg, onward, address}
+use Rattle.machine.specs.Cpu.{Cpu, reg, withReg, withCode, onward, address}
+use Rattle.machine.specs.Pairs.{pair, withPair, evenOnly}
 use Rattle.machine.specs.Branches.{going}
 
 abbrev pub rsAddress : RsFields → Cpu → ℕ
@@ -47,6 +51,13 @@ comparand f c = reg c (f .r3 / 2 * 2 + 1)
 unfoldable pub isHigh : RsFields → Cpu → Bool
 isHigh f c = ltZ (signed wordTop (comparand f c)) (signed wordTop (indexSum f c))
 
+-- what a signed shift makes of R1's word, and of its pair's double word
+unfoldable pub shiftedWord : Direction → RsFields → Cpu → Shifted
+shiftedWord d f c = shiftedOf d wordTop (reg c (f .r1)) (rsAddress f c)
+
+unfoldable pub shiftedPair : Direction → RsFields → Cpu → Shifted
+shiftedPair d f c = shiftedOf d doubleTop (pair c (f .r1)) (rsAddress f c)
+
 unfoldable pub rs : RsAction → RsFields → Cpu → Prog Cpu
 -- LM: L3538
 rs LoadMultiple f c =
@@ -63,3 +74,9 @@ rs ShiftRight f c = done (withReg (onward c 4) (f .r1) (shiftedRight (reg c (f .
 rs BranchHigh f c = done (going (isHigh f c) (rsAddress f c) (withReg (onward c 4) (f .r1) (indexSum f c)))
 rs BranchLowEqual f c =
     done (going (not (isHigh f c)) (rsAddress f c) (withReg (onward c 4) (f .r1) (indexSum f c)))
+-- SLA: L4024. SRA, SLDA, SRDA: their pages are lost
+rs (ShiftSigned d) f c =
+    done (withCode (withReg (onward c 4) (f .r1) (shiftedWord d f c .value)) (shiftedWord d f c .code))
+rs (ShiftDouble d) f c =
+    evenOnly (f .r1) c
+    (done (withCode (withPair (onward c 4) (f .r1) (shiftedPair d f c .value)) (shiftedPair d f c .code)))

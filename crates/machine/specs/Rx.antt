@@ -4,30 +4,32 @@ use mathlib.Core.Bool.{true}
 use Rattle.words.specs.declared.Res.{Res}
 use Rattle.words.specs.Whole.{spread}
 use Rattle.words.specs.Combine.{combineOf, resultOf}
+use Rattle.words.specs.Wide.{pairOf}
 use Rattle.code.specs.declared.Operand.{Operand}
-use Rattle.code.specs.declared.Operand.the-variants.{WordWith, HalfSpread, ByteInserted}
+use Rattle.code.specs.declared.Operand.the-variants.{WordWith, HalfWith, ByteInserted}
 use Rattle.code.specs.declared.Width.{Width}
 use Rattle.code.specs.declared.Width.the-variants.{Word, Half, Byte}
 use Rattle.code.specs.declared.RxFields.{RxFields}
 use Rattle.code.specs.declared.RxAction.{RxAction}
-use Rattle.code.specs.declared.RxAction.the-variants.{Taking, Storing, LoadAddress, AddressBranch}
+use Rattle.code.specs.declared.RxAction.the-variants.{Taking, Storing, LoadAddress, AddressBranch, PairAndWord}
 use Rattle.machine.specs.Prog.{Prog, done}
 use Rattle.machine.specs.Fields.{bytesOf, loading, storing}
 use Rattle.machine.specs.Cpu.{Cpu, reg, withReg, withRes, onward, address}
+use Rattle.machine.specs.Pairs.{pair, evenOnly, intoPair}
 use Rattle.machine.specs.Branches.{branch}
 
 -- how wide the operand of a load is
 abbrev pub widthOf : Operand → Width
 widthOf (WordWith op) = Word
-widthOf HalfSpread = Half
+widthOf (HalfWith op) = Half
 widthOf ByteInserted = Byte
 
 -- what a load makes of register a and operand v, with the code as it was
 unfoldable pub taken : Operand → ℕ → ℕ → ℕ → Res
 -- L A S C AL SL CL N O X
 taken (WordWith op) a v cc = combineOf op a v cc
--- LH: L3398. The sign is spread
-taken HalfSpread a v cc = resultOf (spread v) cc
+-- LH AH SH CH MH: the sign is spread
+taken (HalfWith op) a v cc = combineOf op a (spread v) cc
 -- IC: L5005. The other 24 bits stay
 taken ByteInserted a v cc = resultOf (a / 256 * 256 + v) cc
 
@@ -45,3 +47,7 @@ rx (Storing w) f c = storing (bytesOf w) (rxAddress f c) (reg c (f .r1)) (done (
 rx LoadAddress f c = done (withReg (onward c 4) (f .r1) (rxAddress f c))
 -- BC BAL BCT
 rx (AddressBranch b) f c = done (branch b 4 (f .r1) (rxAddress f c) true c)
+-- M D: R1, then the operand's boundary and its look-up, then, of D, whether it divides
+rx (PairAndWord op) f c =
+    evenOnly (f .r1) c
+    (loading 4 (rxAddress f c) (λ v. intoPair (pairOf op (pair c (f .r1)) v) 4 (f .r1) c))

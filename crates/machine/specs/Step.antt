@@ -1,5 +1,6 @@
 -- A step: one instruction, in document 01's order: odd program counter, the first halfword's look-up, operation, the remaining halfwords,
--- lowest first, and then what the action asks: operand boundary, operand look-ups, the work.
+-- lowest first, and then what the action asks: an even register for a pair, operand boundary, operand look-ups, a quotient that fits, the
+-- work.
 use Prim.Native.Nat.{ℕ, _%_}
 use lib.Dec.{eqb}
 use Rattle.words.specs.Pick.{pick}

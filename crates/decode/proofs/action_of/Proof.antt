@@ -207,8 +207,56 @@ unfolding actionOf table
 returns-50 c = at-code _ _ _ (c .match .keys50) refl
 
 returns-51 : tie.Need-returns-51
+unfolding actionOf table
+returns-51 c = at-code _ _ _ (c .match .keys51) refl
+
+returns-52 : tie.Need-returns-52
+unfolding actionOf table
+returns-52 c = at-code _ _ _ (c .match .keys52) refl
+
+returns-53 : tie.Need-returns-53
+unfolding actionOf table
+returns-53 c = at-code _ _ _ (c .match .keys53) refl
+
+returns-54 : tie.Need-returns-54
+unfolding actionOf table
+returns-54 c = at-code _ _ _ (c .match .keys54) refl
+
+returns-55 : tie.Need-returns-55
+unfolding actionOf table
+returns-55 c = at-code _ _ _ (c .match .keys55) refl
+
+returns-56 : tie.Need-returns-56
+unfolding actionOf table
+returns-56 c = at-code _ _ _ (c .match .keys56) refl
+
+returns-57 : tie.Need-returns-57
+unfolding actionOf table
+returns-57 c = at-code _ _ _ (c .match .keys57) refl
+
+returns-58 : tie.Need-returns-58
+unfolding actionOf table
+returns-58 c = at-code _ _ _ (c .match .keys58) refl
+
+returns-59 : tie.Need-returns-59
+unfolding actionOf table
+returns-59 c = at-code _ _ _ (c .match .keys59) refl
+
+returns-60 : tie.Need-returns-60
+unfolding actionOf table
+returns-60 c = at-code _ _ _ (c .match .keys60) refl
+
+returns-61 : tie.Need-returns-61
+unfolding actionOf table
+returns-61 c = at-code _ _ _ (c .match .keys61) refl
+
+returns-62 : tie.Need-returns-62
+unfolding actionOf table
+returns-62 c = at-code _ _ _ (c .match .keys62) refl
+
+returns-63 : tie.Need-returns-63
 unfolding table
-returns-51 c = unknown-code _ _ (c .match .rest)
+returns-63 c = unknown-code _ _ (c .match .rest)
 
 pub action-of-spec : {M : Type 1} → statement M
 action-of-spec =
@@ -264,4 +312,16 @@ action-of-spec =
     returns-48
     returns-49
     returns-50
-    returns-51)
+    returns-51
+    returns-52
+    returns-53
+    returns-54
+    returns-55
+    returns-56
+    returns-57
+    returns-58
+    returns-59
+    returns-60
+    returns-61
+    returns-62
+    returns-63)
