@@ -7,22 +7,22 @@ use native.Mathlib.Omega.{arith}
 use lib.Dec.{eqb}
 use borrow.Author.Tests.{lt-ltb, le-ltb}
 use Rattle.words.specs.declared.Alu.{Alu}
-use Rattle.words.specs.declared.Logic.{Logic}
 use Rattle.words.specs.declared.Res.{Res}
 use Rattle.words.specs.Pick.{pick}
 use Rattle.words.specs.Codes.{zeroCode}
-use Rattle.words.specs.Combine.{combineOf, logicOf, carried, resultOf}
+use Rattle.words.specs.Combine.{combineOf, carried, resultOf}
 
 -- the operation is known to be k
 pub combine-told : (op k : Alu) (a b cc : ℕ) (r : Res) → op ≡ k → r ≡ combineOf k a b cc → r ≡ combineOf op a b cc
 combine-told op k a b cc r e h = h ∙ ap (λ (o : Alu). combineOf o a b cc) (sym e)
 
-pub logic-told : (op k : Logic) (a b : ℕ) → op ≡ k → logicOf k a b ≡ logicOf op a b
-logic-told op k a b e = ap (λ (o : Logic). logicOf o a b) (sym e)
-
 -- a word whose code a call gave
 pub result-told : (v k m : ℕ) (r : Res) → k ≡ m → r ≡ resultOf v k → r ≡ resultOf v m
 result-told v k m r e h = h ∙ ap (resultOf v) e
+
+-- a word that a call gave
+pub value-told : (v w k : ℕ) (r : Res) → v ≡ w → r ≡ resultOf v k → r ≡ resultOf w k
+value-told v w k r e h = h ∙ ap (λ (n : ℕ). resultOf n k) e
 
 -- a logical sum without a carry, and with one
 module _ (s z : ℕ) (r : Res) (e : z ≡ zeroCode (s % 4294967296)) where

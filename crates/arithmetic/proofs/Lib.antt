@@ -1,7 +1,8 @@
 -- What the proofs of the arithmetic share.
-mod Choice
-mod Differences
 mod Lifted
 mod Results
 mod ByCases
-mod Shifts
+mod ShiftedOut
+mod Sizes
+mod Pairs
+mod WideShifts

@@ -1,4 +1,4 @@
-// The arithmetic of the base set, against the whole numbers that words stand for.
+// The machine's arithmetic, against the whole numbers that words stand for.
 ghost use mathlib.Core.Path.{_≡_};
 ghost use lib.Signed.{ltZ};
 ghost use Rattle.words.specs.Whole.{wordTop, signed, spread};
@@ -10,6 +10,8 @@ use words::Res;
 
 pub mod signed; // signed.rt: signed results, by numbers that are lifted above zero
 pub mod logical; // logical.rt: sums with a carry
+pub mod wide; // wide.rt: multiply and divide
+pub mod shifts; // shifts.rt: signed shifts, over the width
 
 pub fn combine(op: Alu, a: u32, b: u32, code: u32) -> Res
     ensures { λ r. ⌜ r ≡ combineOf op a b code ⌝ }
@@ -27,6 +29,7 @@ pub fn combine(op: Alu, a: u32, b: u32, code: u32) -> Res
         Alu::SubtractLogical => logical::subtract(a, b),
         Alu::CompareLogical => logical::result_of(a, compare_bits(a, b)),
         Alu::Bits(l) => logical::bits(l, a, b),
+        Alu::LowProduct => logical::result_of(wide::low_product(a, b), code),
     }
 }
 

@@ -1,5 +1,5 @@
 use Rattle.words.specs.Combine.{combineOf}
-use Rattle.arithmetic.proofs.ByCases.{combine-told, result-told}
+use Rattle.arithmetic.proofs.ByCases.{combine-told, result-told, value-told}
 use borrow.Author.Needs.{needs}
 use Rattle.arithmetic.proofs.combine.Statement.{statement}
 use Rattle.arithmetic.proofs.combine.Tie as tie
@@ -82,6 +82,15 @@ enum-known-op c = search needs
 bits-requires : tie.Need-bits-requires
 bits-requires c κs = search needs
 
+enum-told-12 : tie.Need-enum-told-12
+enum-told-12 c = search needs
+
+low-product-requires : tie.Need-low-product-requires
+low-product-requires c κs = search needs
+
+result-of-requires-4 : tie.Need-result-of-requires-4
+result-of-requires-4 c κs = search needs
+
 returns : tie.Need-returns
 unfolding combineOf
 returns c = search combine-told
@@ -130,6 +139,10 @@ returns-12 : tie.Need-returns-12
 unfolding combineOf
 returns-12 c = search combine-told
 
+returns-13 : tie.Need-returns-13
+unfolding combineOf
+returns-13 c = search (combine-told, value-told)
+
 pub combine-spec : {M : Type 1} → statement M
 combine-spec =
     tie.close
@@ -160,6 +173,9 @@ combine-spec =
     result-of-requires-3
     enum-known-op
     bits-requires
+    enum-told-12
+    low-product-requires
+    result-of-requires-4
     returns
     returns-2
     returns-3
@@ -171,4 +187,5 @@ combine-spec =
     returns-9
     returns-10
     returns-11
-    returns-12)
+    returns-12
+    returns-13)

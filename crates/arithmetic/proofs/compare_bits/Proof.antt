@@ -1,5 +1,5 @@
 use Rattle.words.specs.Codes.{compareBits}
-use Rattle.arithmetic.proofs.Choice.{tests}
+use Rattle.words.proofs.Choice.{tests}
 use Rattle.arithmetic.proofs.compare_bits.Statement.{statement}
 use Rattle.arithmetic.proofs.compare_bits.Tie as tie
 

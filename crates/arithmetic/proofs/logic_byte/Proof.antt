@@ -1,5 +1,4 @@
 use Rattle.words.specs.Combine.{logicOf}
-use Rattle.arithmetic.proofs.ByCases.{logic-told}
 use borrow.Author.Needs.{needs}
 use Rattle.arithmetic.proofs.logic_byte.Statement.{statement}
 use Rattle.arithmetic.proofs.logic_byte.Tie as tie
@@ -15,15 +14,15 @@ enum-told-3 c = search needs
 
 returns : tie.Need-returns
 unfolding logicOf
-returns c = logic-told _ _ _ _ (c .enum-told .given .1)
+returns c = cc
 
 returns-2 : tie.Need-returns-2
 unfolding logicOf
-returns-2 c = logic-told _ _ _ _ (c .enum-told2 .given .1)
+returns-2 c = cc
 
 returns-3 : tie.Need-returns-3
 unfolding logicOf
-returns-3 c = logic-told _ _ _ _ (c .enum-told3 .given .1)
+returns-3 c = cc
 
 pub logic-byte-spec : {M : Type 1} → statement M
 logic-byte-spec =

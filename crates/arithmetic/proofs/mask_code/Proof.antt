@@ -1,5 +1,5 @@
 use Rattle.words.specs.Codes.{maskCode}
-use Rattle.arithmetic.proofs.Choice.{tests}
+use Rattle.words.proofs.Choice.{tests}
 use Rattle.arithmetic.proofs.mask_code.Statement.{statement}
 use Rattle.arithmetic.proofs.mask_code.Tie as tie
 

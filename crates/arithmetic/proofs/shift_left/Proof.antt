@@ -1,5 +1,5 @@
 use Rattle.words.specs.Combine.{shiftedLeft}
-use Rattle.arithmetic.proofs.Shifts.{left-out}
+use Rattle.arithmetic.proofs.ShiftedOut.{left-out}
 use borrow.Author.Needs.{needs}
 use Rattle.arithmetic.proofs.shift_left.Statement.{statement}
 use Rattle.arithmetic.proofs.shift_left.Tie as tie

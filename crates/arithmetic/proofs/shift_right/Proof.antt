@@ -1,5 +1,5 @@
 use Rattle.words.specs.Combine.{shiftedRight}
-use Rattle.arithmetic.proofs.Shifts.{right-out}
+use Rattle.arithmetic.proofs.ShiftedOut.{right-out}
 use borrow.Author.Needs.{needs}
 use Rattle.arithmetic.proofs.shift_right.Statement.{statement}
 use Rattle.arithmetic.proofs.shift_right.Tie as tie

@@ -1,5 +1,5 @@
 use Rattle.words.specs.Codes.{zeroCode}
-use Rattle.arithmetic.proofs.Choice.{tests}
+use Rattle.words.proofs.Choice.{tests}
 use Rattle.arithmetic.proofs.zero_code.Statement.{statement}
 use Rattle.arithmetic.proofs.zero_code.Tie as tie
 

@@ -1,4 +1,6 @@
-use Rattle.arithmetic.proofs.Lifted.{size-low, size-high}
+use mathlib.Core.Path.{refl}
+use Rattle.words.specs.Whole.{wordTop}
+use Rattle.arithmetic.proofs.Sizes.{size-low, size-high}
 use borrow.Author.Needs.{needs}
 use Rattle.arithmetic.proofs.signed.magnitude_of.Statement.{statement}
 use Rattle.arithmetic.proofs.signed.magnitude_of.Tie as tie
@@ -13,7 +15,7 @@ returns : tie.Need-returns
 returns c = search (size-low, needs)
 
 returns-2 : tie.Need-returns-2
-returns-2 c = search (size-high, needs)
+returns-2 c = search (size-high wordTop 4294967295 refl, needs)
 
 pub magnitude-of-spec : {M : Type 1} → statement M
 magnitude-of-spec = tie.close (tie.spec sub-result add-result returns returns-2)
