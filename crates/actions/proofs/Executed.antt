@@ -1,22 +1,22 @@
 -- What an executor answers is what its program comes to: a law for each way out, in the terms that the code has in hand there.
-use Prim.Native.Nat.{ℕ, zero, suc, _+_, _<_, _≤_, _%_}
+use Prim.Native.Nat.{ℕ, _+_, _<_, _≤_, _%_}
 use native.Mathlib.Omega.{arith}
-use mathlib.Core.Path.{_≡_, refl, sym, _∙_, ap}
+use mathlib.Core.Path.{_≡_, sym, _∙_, ap}
 use mathlib.Core.List.{List, [], _∷_}
 use lib.ListN.{length, getD, set}
 use Rattle.pages.specs.declared.Access.{Access}
-use Rattle.pages.specs.declared.Access.the-variants.{Load, Store}
+use Rattle.pages.specs.declared.Access.the-variants.{Store}
 use Rattle.pages.specs.declared.Cause.{Cause}
 use Rattle.pages.specs.declared.Look.{Look}
 use Rattle.pages.specs.declared.Look.the-variants.{At, Refused}
 use Rattle.pages.specs.Tests.{numberOf}
 use Rattle.pages.specs.Look.{lookOf}
-use Rattle.pages.specs.Framed.{Framed, framedOf, accessedAt, readByte, writeByte}
-use Rattle.machine.specs.Prog.{Prog, done, fail, look, get, put, Answer, finished, refused, interp}
-use Rattle.machine.specs.Run.{Result, one}
-use Rattle.machine.specs.Fields.{looks, gets, puts, moves, compares, aligned, loading, storing, bytesOf}
+use Rattle.pages.specs.Framed.{Framed, framedOf, accessedAt}
+use Rattle.machine.specs.Prog.{Prog, done, fail, look, Answer, finished, refused, interp}
+use Rattle.machine.specs.Run.{one}
+use Rattle.machine.specs.Fields.{looks, gets, puts, moves, compares, aligned, bytesOf}
 use Rattle.machine.specs.Store.{framed}
-use Rattle.machine.specs.Cpu.{Cpu, reg, withReg, withRes, onward, ahead}
+use Rattle.machine.specs.Cpu.{Cpu, reg, withRes, onward, ahead}
 use Rattle.machine.specs.Rr.{rr}
 use Rattle.machine.specs.Rx.{widthOf, taken}
 use Rattle.code.specs.declared.RrAction.{RrAction}
@@ -28,11 +28,11 @@ use Rattle.code.specs.declared.Operand.the-variants.{ByteInserted}
 use Rattle.code.specs.declared.Width.{Width}
 use Rattle.fields.specs.declared.Field.{Field}
 use Rattle.fields.specs.Direct.{lookFields, lookOne, noteField, readField, writeField, moveField, compareField, flat}
-use Rattle.fields.proofs.Bridge.{afterLook, gets-is, puts-is, moves-is, compares-is}
+use Rattle.fields.proofs.Bridge.{gets-is, puts-is, moves-is, compares-is}
 use Rattle.actions.specs.declared.Now.{Now}
 use Rattle.actions.specs.declared.Out.{Out}
 use Rattle.actions.specs.declared.Out.the-variants.{Done, Stop}
-use Rattle.actions.specs.Answered.{cpuOf, told, refusalOf}
+use Rattle.actions.specs.Answered.{cpuOf, told, answersTo, refusalOf}
 use Rattle.actions.proofs.Looks.{one-stop, one-go, byte-stop, byte-go, two-is, off-boundary, on-boundary}
 
 -- a program that does no more than set the state
@@ -40,6 +40,13 @@ pub no-storage : (regs regs′ : List ℕ) (c n : Now) (p : Prog Cpu) (s : Frame
     → told (Done n) regs′ c s ≡ one (cpuOf regs c) (interp framed p s s)
 unfolding told interp
 no-storage regs regs′ c n p s e = ap (λ (q : Prog Cpu). one (cpuOf regs c) (interp framed q s s)) e
+
+-- the same of an answer that may be a refusal
+pub answered : (regs regs′ : List ℕ) (c : Now) (o : Out) (p : Prog Cpu) (s : Framed) → answersTo o regs regs′ p
+    → told o regs′ c s ≡ one (cpuOf regs c) (interp framed p s s)
+unfolding told interp answersTo
+answered regs regs′ c (Done n) p s e = no-storage regs regs′ c n p s e
+answered regs regs′ c (Stop k a) p s (e, f) = rw (f, ← e)
 
 -- the state and the store that a program ends in
 ends : (regs regs′ : List ℕ) (c n : Now) (p : Prog Cpu) (s s′ : Framed) → interp framed p s s ≡ finished (cpuOf regs′ n) s′
@@ -78,16 +85,30 @@ module _ (regs : List ℕ) (c : Now) (mem map : List ℕ) where
           (ap (λ (p : Prog Cpu). interp framed p (framedOf mem map) (framedOf mem map)) (on-boundary w a (looks acc a m k) h)
           ∙ one-stop acc a m k mem map (framedOf mem map) d b (sym e ∙ ef) l)
 
+      -- found, what comes after the look-ups decides
+      pub operand-comes : (r : ℕ) (map′ : List ℕ) (x : Answer Cpu Framed) → found ≡ At r → map′ ≡ noteField map a m
+          → interp framed k (framedOf mem map) (framedOf mem map′) ≡ x
+          → interp framed (aligned w a (looks acc a m k)) (framedOf mem map) (framedOf mem map) ≡ x
+      operand-comes r map′ x ef em ek =
+          ap (λ (p : Prog Cpu). interp framed p (framedOf mem map) (framedOf mem map)) (on-boundary w a (looks acc a m k) h)
+          ∙ one-go acc a m k mem map (framedOf mem map) r (sym e ∙ ef)
+          ∙ ap (λ (y : List ℕ). interp framed k (framedOf mem map) (framedOf mem y)) (sym em)
+          ∙ ek
+
       pub operand-go : (r : ℕ) (map′ regs′ : List ℕ) (t : Framed) (next : Now) → found ≡ At r → map′ ≡ noteField map a m
           → interp framed k (framedOf mem map) (framedOf mem map′) ≡ finished (cpuOf regs′ next) t
           → told (Done next) regs′ c t
           ≡ one (cpuOf regs c) (interp framed (aligned w a (looks acc a m k)) (framedOf mem map) (framedOf mem map))
       operand-go r map′ regs′ t next ef em ek =
-          ends regs regs′ c next (aligned w a (looks acc a m k)) (framedOf mem map) t
-          (ap (λ (p : Prog Cpu). interp framed p (framedOf mem map) (framedOf mem map)) (on-boundary w a (looks acc a m k) h)
-          ∙ one-go acc a m k mem map (framedOf mem map) r (sym e ∙ ef)
-          ∙ ap (λ (x : List ℕ). interp framed k (framedOf mem map) (framedOf mem x)) (sym em)
-          ∙ ek)
+          ends regs regs′ c next (aligned w a (looks acc a m k)) (framedOf mem map) t (operand-comes r map′ _ ef em ek)
+
+      -- refused after all, by what comes after the look-ups: no mark is left
+      pub operand-refused : (r : ℕ) (map′ : List ℕ) (n b : ℕ) → found ≡ At r → map′ ≡ noteField map a m
+          → interp framed k (framedOf mem map) (framedOf mem map′) ≡ refused n b (framedOf mem map)
+          → told (Stop n b) regs c (framedOf mem map)
+          ≡ one (cpuOf regs c) (interp framed (aligned w a (looks acc a m k)) (framedOf mem map) (framedOf mem map))
+      operand-refused r map′ n b ef em ek =
+          stops regs c n b (aligned w a (looks acc a m k)) (framedOf mem map) (operand-comes r map′ _ ef em ek)
 
   -- one byte
   module _ (acc : Access) (a : ℕ) (k : Prog Cpu) (found : Look) (e : found ≡ lookOf map (length mem) acc a) where
@@ -143,6 +164,11 @@ pub loaded : (regs : List ℕ) (next : Now) (kept s : Framed) (a n : ℕ) (k : �
 unfolding interp
 loaded regs next kept s a n k ek =
     gets-is a n 0 k kept s ∙ ap (λ (p : Prog Cpu). interp framed p kept s) (sym ek)
+
+pub loaded-in-vain : (kept s : Framed) (a n p q : ℕ) (k : ℕ → Prog Cpu) → fail p q ≡ k (readField s a n 0)
+    → interp framed (gets a n 0 k) kept s ≡ refused p q kept
+unfolding interp
+loaded-in-vain kept s a n p q k ek = gets-is a n 0 k kept s ∙ ap (λ (x : Prog Cpu). interp framed x kept s) (sym ek)
 
 pub stored : (regs : List ℕ) (next : Now) (kept s t : Framed) (a n v : ℕ) (k : Prog Cpu) → t ≡ writeField s a n v → done (cpuOf regs next) ≡ k
     → interp framed (puts a n v k) kept s ≡ finished (cpuOf regs next) t

@@ -1,3 +1,4 @@
 pub mod Scalars
 pub mod Looks
 pub mod Executed
+pub mod OnPairs

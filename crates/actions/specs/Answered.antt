@@ -1,12 +1,13 @@
 -- The lent registers and the state's scalars are the definitions' state; an executor's answer, with what the lists hold at exit, is the
 -- definitions' result of one step. Each case of the enum is given document 01's number and values here.
 use Prim.Native.Nat.{ℕ}
+use mathlib.Core.Path.{_≡_}
 use mathlib.Core.List.{List}
 use Rattle.pages.specs.declared.Look.{Look}
 use Rattle.pages.specs.declared.Look.the-variants.{At, Refused}
 use Rattle.pages.specs.Tests.{numberOf}
 use Rattle.pages.specs.Framed.{Framed}
-use Rattle.machine.specs.Prog.{Prog, interp}
+use Rattle.machine.specs.Prog.{Prog, done, fail, interp}
 use Rattle.machine.specs.Run.{Result, one}
 use Rattle.machine.specs.Store.{framed}
 use Rattle.machine.specs.Cpu.{Cpu}
@@ -30,3 +31,8 @@ doing p regs c s = one (cpuOf regs c) (interp framed (p (cpuOf regs c)) s s)
 abbrev pub refusalOf : Look → Out
 refusalOf (Refused c a) = Stop (numberOf c) a
 refusalOf (At r) = Stop 0 0
+
+-- the answer of an executor that touches no storage is this program's; regs′ are the registers at exit, and a refusal leaves them
+unfoldable pub answersTo : Out → List ℕ → List ℕ → Prog Cpu → Type 0
+answersTo (Done n) regs regs′ p = done (cpuOf regs′ n) ≡ p
+answersTo (Stop k a) regs regs′ p = (fail k a ≡ p) × (regs′ ≡ regs)

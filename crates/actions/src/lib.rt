@@ -1,5 +1,6 @@
-// What the executors share: the state's scalars, an executor's answer, registers and branches; and the executor of the RR format.
+// What the executors share: the state's scalars, an executor's answer, registers, pairs and branches; and the executor of the RR format.
 pub mod branches;
+pub mod pairs;
 pub mod registers;
 pub mod rr;
 

@@ -14,7 +14,7 @@ use Rattle.engine.specs.Entry.{halves, halvesOf}
 
 abbrev rows : List ℕ
 rows =
-    0 ∷ 0 ∷ 0 ∷ 0 ∷ 0x01ef ∷ 0xcff1 ∷ 0 ∷ 0 ∷ 0x03c0 ∷ 0x01f7 ∷ 0 ∷ 0 ∷ 0 ∷ 0x0024 ∷ 0 ∷ 0 ∷ []
+    0 ∷ 0 ∷ 0 ∷ 0 ∷ 0x1fef ∷ 0xfff1 ∷ 0 ∷ 0 ∷ 0xcfc0 ∷ 0x01f7 ∷ 0 ∷ 0 ∷ 0 ∷ 0x0024 ∷ 0 ∷ 0 ∷ []
 
 -- whether the code's bit is set, and the length that follows
 unfoldable bit : ℕ → ℕ

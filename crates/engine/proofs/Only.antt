@@ -12,14 +12,14 @@ use lib.IntN.{ℤ, pos, negsuc, subℕ}
 use Rattle.words.specs.Said.{Said}
 use Rattle.pages.specs.Framed.{Framed, framedOf}
 use Rattle.machine.specs.declared.Reply.{Reply}
-use Rattle.machine.specs.Prog.{Prog, done}
+use Rattle.machine.specs.Prog.{Prog, done, fail}
 use Rattle.machine.specs.Run.{Result}
 use Rattle.machine.specs.Cpu.{Cpu}
 use Rattle.machine.specs.Machine.{Given, Outcome, outcome, stepOutcome, runOutcome}
 use Rattle.actions.specs.declared.Now.{Now}
 use Rattle.actions.specs.declared.Out.{Out}
 use Rattle.actions.specs.declared.Out.the-variants.{Done, Stop}
-use Rattle.actions.specs.Answered.{cpuOf, told}
+use Rattle.actions.specs.Answered.{cpuOf, told, answersTo}
 use Rattle.engine.specs.declared.Ran.{Ran}
 use Rattle.engine.specs.declared.Fetched.{Fetched}
 use Rattle.engine.specs.declared.Fetched.the-variants as T
@@ -72,6 +72,20 @@ only-done regs regs′ n n′ x e e′ =
     let d : done (cpuOf regs n) ≡ done (cpuOf regs′ n′) = only _ _ x e e′ in
     let s : cpuOf regs n ≡ cpuOf regs′ n′ = cc in
     only-cpu regs regs′ n n′ (cpuOf regs′ n′) s refl
+
+-- `answersTo r (now (regs .entry)) (now (regs .exit)) ..`, regs being the registers at entry: no state that is done is a refusal
+pub only-answers : (o o′ : Out) (regs r r′ : List ℕ) (x : Prog Cpu) → answersTo o regs r x → answersTo o′ regs r′ x
+    → (o ≡ o′) × (r ≡ r′)
+unfolding answersTo
+only-answers (Done n) (Done n′) regs r r′ x e e′ =
+    let both = only-done r r′ n n′ x e e′ in (ap Done (both .1), both .0)
+only-answers (Stop k a) (Stop k′ a′) regs r r′ x (e, q) (e′, q′) =
+    let f : fail k a ≡ fail k′ a′ = only _ _ x e e′ in
+    let m : k ≡ k′ = cc in
+    let p : a ≡ a′ = cc in
+    (ap (λ (n : ℕ). Stop n a) m ∙ ap (Stop k′) p, q ∙ sym q′)
+only-answers (Done n) (Stop k a) regs r r′ x e (e′, q) = absurd (let z : _≡_ {A = ℕ} 0 1 = cc in omega arith)
+only-answers (Stop k a) (Done n) regs r r′ x (e, q) e′ = absurd (let z : _≡_ {A = ℕ} 0 1 = cc in omega arith)
 
 -- an executor's answer, from the result that it tells
 outAt : ℕ → Result Cpu Framed → Out

@@ -30,11 +30,11 @@ fn halves_of(h1: u16) -> u32
         0,
         0,
         0,
-        0b0000_0001_1110_1111, // 40 to 43, 45 to 48
-        0b1100_1111_1111_0001, // 50, 54 to 5B, 5E, 5F
+        0b0001_1111_1110_1111, // 40 to 43, 45 to 4C
+        0b1111_1111_1111_0001, // 50, 54 to 5F
         0,
         0,
-        0b0000_0011_1100_0000, // 86 to 89
+        0b1100_1111_1100_0000, // 86 to 8B, 8E, 8F
         0b0000_0001_1111_0111, // 90 to 92, 94 to 98
         0,
         0,
@@ -125,7 +125,7 @@ pub fn finish(
         return Out::Stop(5, c.pc);
     };
     match x {
-        Action::Rr(y) => Out::Done(actions::rr::execute(regs, c, y, h1)),
+        Action::Rr(y) => actions::rr::execute(regs, c, y, h1),
         Action::Rx(y) => rx_si::rx::execute(regs, mem, map, c, y, decode::split_rx(h1, h2)),
         Action::Rs(y) => rs_ss::rs::execute(regs, mem, map, c, y, decode::split_rs(h1, h2)),
         Action::Si(y) => rx_si::si::execute(regs, mem, map, c, y, decode::split_si(h1, h2)),

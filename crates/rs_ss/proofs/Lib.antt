@@ -1,2 +1,3 @@
 mod RegisterLoops
 mod Multiples
+mod SignedShifts

@@ -7,13 +7,14 @@ use code::RsAction;
 use code::RsFields;
 use pages::Access;
 use pages::Look;
+use words::Direction;
 ghost use mathlib.Core.Path.{_≡_};
 ghost use Prim.Native.Nat.{_≤_};
 ghost use Rattle.pages.specs.Framed.{framedOf};
 ghost use Rattle.machine.specs.Prog.{done};
 ghost use Rattle.machine.specs.Rs.{rs, rsAddress, howMany, nextReg, nextWord, indexSum, isHigh};
 ghost use Rattle.rs_ss.specs.Multiple.{filled, spilled};
-ghost use Rattle.actions.specs.Answered.{cpuOf, told, doing};
+ghost use Rattle.actions.specs.Answered.{cpuOf, told, doing, answersTo};
 
 fn operand_address(regs: &[u32], c: Now, f: RsFields) -> u32
     ensures { λ r. ⌜ r ≡ rsAddress f (cpuOf (now (regs .entry)) c) ⌝ }
@@ -190,6 +191,39 @@ fn branch_low_equal(regs: &mut [u32], c: Now, f: RsFields) -> Now
     branches::go(regs, c, !high, to, next)
 }
 
+// SLA SRA.
+fn shift_signed(regs: &mut [u32], c: Now, to: Direction, f: RsFields) -> Now
+    ensures { λ n. ⌜ done (cpuOf (now (regs .exit)) n) ≡ rs (RsAction.ShiftSigned to) f (cpuOf (now (regs .entry)) c) ⌝ }
+{
+    let amount = operand_address(regs, c, f);
+    let result = arithmetic::shifts::word(to, registers::reg(regs, f.r1), amount);
+    let next = registers::ahead_of(regs, c, 4);
+    registers::put_reg(regs, f.r1, result.value as u32);
+    Now {
+        pc: next,
+        code: result.code,
+        mask: c.mask,
+    }
+}
+
+// SLDA SRDA.
+fn shift_double(regs: &mut [u32], c: Now, to: Direction, f: RsFields) -> Out
+    ensures { λ o. ⌜ answersTo o (now (regs .entry)) (now (regs .exit)) (rs (RsAction.ShiftDouble to) f (cpuOf (now (regs .entry)) c)) ⌝ }
+{
+    if f.r1 % 2 != 0 {
+        return Out::Stop(2, c.pc);
+    }
+    let amount = operand_address(regs, c, f);
+    let result = arithmetic::shifts::double(to, registers::pair_of(regs, c, f.r1), amount);
+    let next = registers::ahead_of(regs, c, 4);
+    registers::put_pair(regs, f.r1, result.value);
+    Out::Done(Now {
+        pc: next,
+        code: result.code,
+        mask: c.mask,
+    })
+}
+
 pub fn execute(
     regs: &mut [u32],
     mem: &mut [u8],
@@ -207,5 +241,7 @@ pub fn execute(
         RsAction::ShiftRight => Out::Done(shift_right(regs, c, f)),
         RsAction::BranchHigh => Out::Done(branch_high(regs, c, f)),
         RsAction::BranchLowEqual => Out::Done(branch_low_equal(regs, c, f)),
+        RsAction::ShiftSigned(to) => Out::Done(shift_signed(regs, c, to, f)),
+        RsAction::ShiftDouble(to) => shift_double(regs, c, to, f),
     }
 }

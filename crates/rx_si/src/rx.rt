@@ -2,6 +2,7 @@
 use actions::Now;
 use actions::Out;
 use actions::branches;
+use actions::pairs;
 use actions::registers;
 use code::Branch;
 use code::Operand;
@@ -10,6 +11,7 @@ use code::RxFields;
 use code::Width;
 use pages::Access;
 use pages::Look;
+use words::PairOp;
 use words::Res;
 ghost use mathlib.Core.Path.{_≡_};
 ghost use mathlib.Core.Bool.{true};
@@ -33,7 +35,7 @@ fn width_of(op: Operand) -> Width
 {
     match op {
         Operand::WordWith(_) => Width::Word,
-        Operand::HalfSpread => Width::Half,
+        Operand::HalfWith(_) => Width::Half,
         Operand::ByteInserted => Width::Byte,
     }
 }
@@ -45,11 +47,12 @@ fn take(mem: &[u8], op: Operand, at: usize, x: u32, code: u32) -> Res
 {
     match op {
         Operand::WordWith(alu) => arithmetic::combine(alu, x, fields::flat::word_of(mem, at), code),
-        Operand::HalfSpread => Res {
-            value: arithmetic::widen(fields::flat::half_of(mem, at)),
-            code: code,
-            over: false,
-        },
+        Operand::HalfWith(alu) => arithmetic::combine(
+            alu,
+            x,
+            arithmetic::widen(fields::flat::half_of(mem, at)),
+            code,
+        ),
         Operand::ByteInserted => Res {
             value: x / 256 * 256 + fields::flat::byte_of(mem, at) as u32,
             code: code,
@@ -58,7 +61,7 @@ fn take(mem: &[u8], op: Operand, at: usize, x: u32, code: u32) -> Res
     }
 }
 
-// L A S C AL SL CL N O X, LH, IC.
+// L A S C AL SL CL N O X, LH AH SH CH MH, IC.
 fn load(regs: &mut [u32], mem: &[u8], map: &mut [u16], c: Now, op: Operand, f: RxFields) -> Out
     ensures { λ r. ⌜ told r (now (regs .exit)) c (framedOf (now (mem .entry)) (now (map .exit))) ≡ doing (rx (RxAction.Taking op) f) (now (regs .entry)) c (framedOf (now (mem .entry)) (now (map .entry))) ⌝ }
 {
@@ -126,6 +129,28 @@ fn branch(regs: &mut [u32], c: Now, kind: Branch, f: RxFields) -> Now
     branches::take(regs, c, kind, 4, f.r1, to, true)
 }
 
+// M D. The page gets its mark when there is a quotient.
+fn pair(regs: &mut [u32], mem: &[u8], map: &mut [u16], c: Now, op: PairOp, f: RxFields) -> Out
+    ensures { λ r. ⌜ told r (now (regs .exit)) c (framedOf (now (mem .entry)) (now (map .exit))) ≡ doing (rx (RxAction.PairAndWord op) f) (now (regs .entry)) c (framedOf (now (mem .entry)) (now (map .entry))) ⌝ }
+{
+    if f.r1 % 2 != 0 {
+        return Out::Stop(2, c.pc);
+    }
+    let at = operand_address(regs, c, f);
+    if at % 4 != 0 {
+        return Out::Stop(2, at);
+    }
+    let found = fields::look_one(map, mem.len(), Access::Load, at, 4);
+    let Look::At(i) = found else {
+        return actions::refusal(found);
+    };
+    let out = pairs::work(regs, c, op, f.r1, fields::flat::word_of(mem, i), 4);
+    if let Out::Done(_) = out {
+        lookup::note(map, at);
+    }
+    out
+}
+
 pub fn execute(
     regs: &mut [u32],
     mem: &mut [u8],
@@ -141,5 +166,6 @@ pub fn execute(
         RxAction::Storing(width) => store(regs, mem, map, c, width, f),
         RxAction::LoadAddress => Out::Done(load_address(regs, c, f)),
         RxAction::AddressBranch(kind) => Out::Done(branch(regs, c, kind, f)),
+        RxAction::PairAndWord(op) => pair(regs, mem, map, c, op, f),
     }
 }

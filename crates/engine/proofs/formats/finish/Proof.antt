@@ -1,6 +1,6 @@
 use Rattle.engine.proofs.Texts.{unknown-stop}
 use Rattle.engine.specs.Entry.{whole}
-use Rattle.actions.proofs.Executed.{no-storage}
+use Rattle.actions.proofs.Executed.{answered}
 use borrow.Author.Needs.{needs}
 use Rattle.engine.proofs.formats.finish.Statement.{statement}
 use Rattle.engine.proofs.formats.finish.Tie as tie
@@ -100,7 +100,7 @@ same-length c = search needs
 -- src/formats.rt:112:1
 returns-2 : tie.Need-returns-2
 unfolding whole
-returns-2 c = rw (← (c .before .before .before .before .before .before .before .before .before .before .action-of .ensures), (c .before .before .before .before .before .before .before .before .found .given .1), (c .before .before .before .before .before .x .given .1)) (no-storage _ _ _ _ _ _ (c .before .before .execute .ensures))
+returns-2 c = rw (← (c .before .before .before .before .before .before .before .before .before .before .action-of .ensures), (c .before .before .before .before .before .before .before .before .found .given .1), (c .before .before .before .before .before .x .given .1)) (answered _ _ _ _ _ _ (c .before .before .execute .ensures))
 
 -- src/formats.rt:112:1
 same-length-2 : tie.Need-same-length-2

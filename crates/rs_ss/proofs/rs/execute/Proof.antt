@@ -1,4 +1,4 @@
-use Rattle.actions.proofs.Executed.{no-storage}
+use Rattle.actions.proofs.Executed.{no-storage, answered}
 use borrow.Author.Needs.{needs}
 use Rattle.rs_ss.proofs.rs.execute.Statement.{statement}
 use Rattle.rs_ss.proofs.rs.execute.Tie as tie
@@ -7,8 +7,10 @@ use Rattle.rs_ss.proofs.rs.execute.Lts as lts
 use Rattle.rs_ss.proofs.rs.branch_high.Reads as branch-high-reads
 use Rattle.rs_ss.proofs.rs.branch_low_equal.Reads as branch-low-equal-reads
 use Rattle.rs_ss.proofs.rs.load_multiple.Reads as load-multiple-reads
+use Rattle.rs_ss.proofs.rs.shift_double.Reads as shift-double-reads
 use Rattle.rs_ss.proofs.rs.shift_left.Reads as shift-left-reads
 use Rattle.rs_ss.proofs.rs.shift_right.Reads as shift-right-reads
+use Rattle.rs_ss.proofs.rs.shift_signed.Reads as shift-signed-reads
 use Rattle.rs_ss.proofs.rs.store_multiple.Reads as store-multiple-reads
 
 enum-told : tie.Need-enum-told
@@ -46,6 +48,18 @@ enum-told-6 c = search needs
 
 branch-low-equal-requires : tie.Need-branch-low-equal-requires
 branch-low-equal-requires c κs = search needs
+
+enum-known-x : tie.Need-enum-known-x
+enum-known-x c = search needs
+
+shift-signed-requires : tie.Need-shift-signed-requires
+shift-signed-requires c κs = search needs
+
+enum-known-x-2 : tie.Need-enum-known-x-2
+enum-known-x-2 c = search needs
+
+shift-double-requires : tie.Need-shift-double-requires
+shift-double-requires c κs = search needs
 
 same-length : tie.Need-same-length
 same-length c = search needs
@@ -95,6 +109,18 @@ same-length-10 c = search needs
 returns-6 : tie.Need-returns-6
 returns-6 c = rw ((c .before .before .before .before .enum-told6 .given) .1) (no-storage _ _ _ _ _ _ (c .before .before .branch-low-equal .ensures))
 
+same-length-11 : tie.Need-same-length-11
+same-length-11 c = search needs
+
+returns-7 : tie.Need-returns-7
+returns-7 c = rw ((c .before .before .before .before .before .x .given) .1) (no-storage _ _ _ _ _ _ (c .before .before .shift-signed .ensures))
+
+same-length-12 : tie.Need-same-length-12
+same-length-12 c = search needs
+
+returns-8 : tie.Need-returns-8
+returns-8 c = rw ((c .before .before .before .before .before .x2 .given) .1) (answered _ _ _ _ _ _ (c .before .before .shift-double .ensures))
+
 pub execute-spec : {M : Type 1} → statement M
 execute-spec =
     tie.close
@@ -111,6 +137,10 @@ execute-spec =
     branch-high-requires
     enum-told-6
     branch-low-equal-requires
+    enum-known-x
+    shift-signed-requires
+    enum-known-x-2
+    shift-double-requires
     same-length
     same-length-2
     same-length-3
@@ -126,4 +156,8 @@ execute-spec =
     same-length-9
     returns-5
     same-length-10
-    returns-6)
+    returns-6
+    same-length-11
+    returns-7
+    same-length-12
+    returns-8)

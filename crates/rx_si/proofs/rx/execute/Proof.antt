@@ -7,6 +7,7 @@ use Rattle.rx_si.proofs.rx.execute.Lts as lts
 use Rattle.rx_si.proofs.rx.branch.Reads as branch-reads
 use Rattle.rx_si.proofs.rx.load.Reads as load-reads
 use Rattle.rx_si.proofs.rx.load_address.Reads as load-address-reads
+use Rattle.rx_si.proofs.rx.pair.Reads as pair-reads
 use Rattle.rx_si.proofs.rx.store.Reads as store-reads
 
 enum-known-x : tie.Need-enum-known-x
@@ -32,6 +33,12 @@ enum-known-x-3 c = search needs
 
 branch-requires : tie.Need-branch-requires
 branch-requires c κs = search needs
+
+enum-known-x-4 : tie.Need-enum-known-x-4
+enum-known-x-4 c = search needs
+
+pair-requires : tie.Need-pair-requires
+pair-requires c κs = search needs
 
 same-length : tie.Need-same-length
 same-length c = search needs
@@ -69,6 +76,18 @@ same-length-8 c = search needs
 returns-4 : tie.Need-returns-4
 returns-4 c = rw ((c .before .before .before .before .before .x3 .given) .1) (no-storage _ _ _ _ _ _ (c .before .before .branch .ensures))
 
+same-length-9 : tie.Need-same-length-9
+same-length-9 c = search needs
+
+same-length-10 : tie.Need-same-length-10
+same-length-10 c = search needs
+
+same-length-11 : tie.Need-same-length-11
+same-length-11 c = search needs
+
+returns-5 : tie.Need-returns-5
+returns-5 c = rw ((c .before .before .before .before .before .before .before .before .before .x4 .given) .1) (c .before .before .before .before .pair .ensures)
+
 pub execute-spec : {M : Type 1} → statement M
 execute-spec =
     tie.close
@@ -81,6 +100,8 @@ execute-spec =
     load-address-requires
     enum-known-x-3
     branch-requires
+    enum-known-x-4
+    pair-requires
     same-length
     same-length-2
     same-length-3
@@ -92,4 +113,8 @@ execute-spec =
     same-length-7
     returns-3
     same-length-8
-    returns-4)
+    returns-4
+    same-length-9
+    same-length-10
+    same-length-11
+    returns-5)

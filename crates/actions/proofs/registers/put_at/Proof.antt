@@ -1,10 +1,10 @@
 use mathlib.Core.Path.{sym}
 use lib.Seq.{set-out}
 use borrow.Author.Needs.{needs}
-use Rattle.actions.proofs.registers.put_reg.Statement.{statement}
-use Rattle.actions.proofs.registers.put_reg.Tie as tie
-use Rattle.actions.proofs.registers.put_reg.Reads as reads
-use Rattle.actions.proofs.registers.put_reg.Lts as lts
+use Rattle.actions.proofs.registers.put_at.Statement.{statement}
+use Rattle.actions.proofs.registers.put_at.Tie as tie
+use Rattle.actions.proofs.registers.put_at.Reads as reads
+use Rattle.actions.proofs.registers.put_at.Lts as lts
 
 mul-regs : tie.Need-mul-regs
 mul-regs c = search needs
@@ -21,5 +21,5 @@ returns c = search needs
 returns-2 : tie.Need-returns-2
 returns-2 c = sym (set-out _ _ _ (c .if1 .left))
 
-pub put-reg-spec : {M : Type 1} → statement M
-put-reg-spec = tie.close (tie.spec mul-regs slice-write-regs same-length returns returns-2)
+pub put-at-spec : {M : Type 1} → statement M
+put-at-spec = tie.close (tie.spec mul-regs slice-write-regs same-length returns returns-2)

@@ -1,10 +1,10 @@
 use mathlib.Core.Path.{sym}
 use lib.ListN.{List·getD-eq-default}
 use borrow.Author.Needs.{needs}
-use Rattle.actions.proofs.registers.reg.Statement.{statement}
-use Rattle.actions.proofs.registers.reg.Tie as tie
-use Rattle.actions.proofs.registers.reg.Reads as reads
-use Rattle.actions.proofs.registers.reg.Lts as lts
+use Rattle.actions.proofs.registers.at.Statement.{statement}
+use Rattle.actions.proofs.registers.at.Tie as tie
+use Rattle.actions.proofs.registers.at.Reads as reads
+use Rattle.actions.proofs.registers.at.Lts as lts
 
 mul-result : tie.Need-mul-result
 mul-result c = search needs
@@ -18,5 +18,5 @@ returns c = search needs
 returns-2 : tie.Need-returns-2
 returns-2 c = sym (List·getD-eq-default ((c .before .args .regs .now)) 0 (c .if1 .left))
 
-pub reg-spec : {M : Type 1} → statement M
-reg-spec = tie.close (tie.spec mul-result shared-slice-read-result returns returns-2)
+pub at-spec : {M : Type 1} → statement M
+at-spec = tie.close (tie.spec mul-result shared-slice-read-result returns returns-2)

@@ -1,0 +1,2 @@
+-- What the proofs of the RX format share.
+mod PairOperand
