@@ -1,11 +1,11 @@
 -- Demand 1's statements, proved.
-use Prim.Native.Nat.{ℕ, zero, suc, _+_, _%_, _<_, _≤_}
+use Prim.Native.Nat.{ℕ, zero, suc, _%_, _<_, _≤_}
 use native.Mathlib.Omega.{arith}
 use mathlib.Core.Path.{_≡_, refl, sym, _∙_, ap, subst}
-use mathlib.Core.Logic.{_≢_}
+use mathlib.Core.Logic.{_≢_, _⊎_, inl, inr}
 use mathlib.Core.Bool.{Bool, true, false}
 use borrow.Author.Tests.{eqb-true, leb-true, ltb-true, eq-eqb, le-leb, lt-ltb}
-use lib.Dec.{eqb, leb, ltb}
+use lib.Dec.{eqb, leb}
 use lib.ListN.{length, length-set}
 use Rattle.words.specs.Pick.{pick, both}
 use Rattle.words.proofs.Tests.{both-true}
@@ -17,8 +17,8 @@ use Rattle.machine.specs.Store.{framed}
 use Rattle.machine.specs.Cpu.{Cpu}
 use Rattle.machine.specs.Step.{step}
 use Rattle.machine.specs.Machine.{Given, Outcome, proper, turnedAway, cpuIn, storeIn, outcomeOf, opsFor, stepOutcome, runOutcome}
-use Rattle.demand.specs.DemandOne.{handed, refusedAt, CleanStep, CleanRun, StepsAreClean, RunsAreClean}
-use Rattle.demand.proofs.StepEnds.{Sound, Refusal, Came, came, step-ends}
+use Rattle.demand.specs.DemandOne.{Refusal, handed, refusedAt, CleanStep, CleanRun, StepsAreClean, RunsAreClean}
+use Rattle.demand.proofs.StepEnds.{Sound, Came, came, step-ends}
 use Rattle.demand.proofs.KeptByRuns.{Keeps, run-keeps, step-keeps, writes-keep}
 use Rattle.demand.proofs.RunsInParts.{count-most}
 
@@ -82,6 +82,11 @@ module _ (g : Given) where
 came-to : (c : Cpu) (s : Framed) → Sound c → Came Sound s (interp framed (step c) s s)
 came-to c s h = came framed Sound s (step c) s (step-ends c h)
 
+-- no refusal has the number of another end
+refusal-apart : (n : ℕ) → Refusal n → (n ≢ 0) × (n ≢ 6) × (n ≢ 7)
+refusal-apart n (inl h) = (λ e. omega (arith, h .0, e), λ e. omega (arith, h .1, e), λ e. omega (arith, h .1, e))
+refusal-apart n (inr h) = (λ e. omega (arith, h, e), λ e. omega (arith, h, e), λ e. omega (arith, h, e))
+
 -- what was proper is proper still: a state in range, and lists as long as they were
 still-proper : (g : Given) (r : Result Cpu Framed) → proper g ≡ true → Sound (r .cpu) → Long (length (g .mem)) (length (g .map)) (r .held)
     → proper (handed (outcomeOf r)) ≡ true
@@ -97,7 +102,7 @@ clean-step : (g : Given) (x : Answer Cpu Framed) → proper g ≡ true → Came 
     → Long (length (g .mem)) (length (g .map)) ((one (cpuIn g) x) .held) → Sound (cpuIn g) → CleanStep g (stepped g x)
 clean-step g (finished d t) p h l s =
     record {
-      number = omega arith;
+      number = inl refl;
       six = λ e. absurd (omega (arith, e));
       always-six = λ e. absurd (let z : _≡_ {A = ℕ} 0 1 = cc in omega arith);
       trace = λ e. absurd (e refl);
@@ -108,20 +113,20 @@ clean-step g (finished d t) p h l s =
     }
 clean-step g (refused n a t) p h l s =
     record {
-      number = omega (arith, h .0 .1);
-      six = λ e. absurd (omega (arith, h .0 .1, e));
+      number = inr (inl (h .0));
+      six = λ e. absurd (refusal-apart n (h .0) .1 e);
       always-six = λ e. absurd (let z : _≡_ {A = ℕ} 0 1 = cc in omega arith);
       trace = λ e. ap (λ (u : Framed). handed (stepped g (refused n a u))) (h .1);
-      completed = λ e. absurd (omega (arith, h .0 .0, e));
+      completed = λ e. absurd (refusal-apart n (h .0) .0 e);
       uncounted = λ e. refl;
-      away = λ e. absurd (omega (arith, h .0 .1, e));
+      away = λ e. absurd (refusal-apart n (h .0) .1 e);
       again = λ e. still-proper g (one (cpuIn g) (refused n a t)) p s l;
     }
 
 away-step : (g : Given) → proper g ≡ false → CleanStep g (turnedAway g)
 away-step g p =
     record {
-      number = omega arith;
+      number = inr (inr refl);
       six = λ e. p;
       always-six = λ e. refl;
       trace = λ e. refl;
@@ -196,29 +201,25 @@ run-told (suc b) c s h =
 
 -- what each of the two ways says of the number
 module _ (b : ℕ) (r : Result Cpu Framed) where
-  seven-most : Ended b r → r .stop ≤ 7
-  seven-most (spent e f k) = omega (arith, e)
-  seven-most (stopped k n e) = omega (arith, n .1)
-
-  not-zero : Ended b r → r .stop ≢ 0
-  not-zero (spent e f k) z = omega (arith, e, z)
-  not-zero (stopped k n e) z = omega (arith, n .0, z)
+  number-of : Ended b r → Refusal (r .stop) ⊎ (r .stop ≡ 6) ⊎ (r .stop ≡ 7)
+  number-of (spent e f k) = inr (inr e)
+  number-of (stopped k n e) = inl n
 
   not-six : Ended b r → r .stop ≢ 6
   not-six (spent e f k) z = omega (arith, e, z)
-  not-six (stopped k n e) z = omega (arith, n .1, z)
+  not-six (stopped k n e) z = refusal-apart (r .stop) n .1 z
 
   all-spent : Ended b r → r .stop ≡ 7 → (r .count ≡ b) × (r .place ≡ 0)
   all-spent (spent e f k) z = (k, f)
-  all-spent (stopped k n e) z = absurd (omega (arith, n .1, z))
+  all-spent (stopped k n e) z = absurd (refusal-apart (r .stop) n .2 z)
 
   just-spent : Ended b r → r .count ≡ b → r .stop ≡ 7
   just-spent (spent e f k) z = e
   just-spent (stopped k n e) z = absurd (omega (arith, k, z))
 
-  some-left : Ended b r → r .stop < 6
+  some-left : Ended b r → Refusal (r .stop)
       → (r .count < b) × (interp framed (step (r .cpu)) (r .held) (r .held) ≡ refused (r .stop) (r .place) (r .held))
-  some-left (spent e f k) z = absurd (omega (arith, e, z))
+  some-left (spent e f k) z = absurd (refusal-apart (r .stop) z .2 e)
   some-left (stopped k n e) z = (k, e)
 
 true-false : (b : Bool) → b ≡ true → b ≡ false → ⊥
@@ -265,8 +266,7 @@ module _ (budget : ℕ) (g : Given) (p : proper g ≡ true) (l : budget ≤ 6553
   clean-run =
       let end = told .ended in
       record {
-        number = seven-most budget ran end;
-        some = not-zero budget ran end;
+        number = number-of budget ran end;
         six = λ e. absurd (not-six budget ran end e);
         always-six = λ e. absurd (true-false (both (proper g) (leb budget 65535)) entered e);
         away = λ e. absurd (not-six budget ran end e);
@@ -300,8 +300,7 @@ counted-none g = go (proper g)
 away-run : (budget : ℕ) (g : Given) → both (proper g) (leb budget 65535) ≡ false → CleanRun budget g (turnedAway g)
 away-run budget g h =
     record {
-      number = omega arith;
-      some = λ e. omega (arith, e);
+      number = inr (inl refl);
       six = λ e. h;
       always-six = λ e. refl;
       away = λ e. (refl, refl, refl);
@@ -310,7 +309,7 @@ away-run budget g h =
       always-spent = λ n. absurd (n refl);
       named = sym (handed-none g);
       counted = counted-none g;
-      refused = λ e. absurd (omega (arith, e));
+      refused = λ e. absurd (refusal-apart 6 e .1 refl);
       again = λ e. e;
     }
 

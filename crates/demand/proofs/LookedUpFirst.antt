@@ -6,7 +6,10 @@ use mathlib.Core.Path.{_≡_, refl, sym, subst}
 use mathlib.Core.Bool.{Bool, true, false}
 use lib.Dec.{eqb}
 use Rattle.words.specs.Pick.{pick}
+use Rattle.words.specs.declared.Paired.{Paired}
+use Rattle.words.specs.declared.Paired.the-variants.{Value, DivideError}
 use Rattle.words.specs.Codes.{compareBits}
+use Rattle.words.specs.Wide.{pairOf}
 use Rattle.pages.specs.declared.Access.{Access}
 use Rattle.pages.specs.declared.Access.the-variants.{Fetch, Load, Store}
 use Rattle.pages.specs.Word.{next}
@@ -16,13 +19,13 @@ use Rattle.code.specs.declared.Found.{Found}
 use Rattle.code.specs.declared.Found.the-variants.{Known, Unknown}
 use Rattle.code.specs.declared.RrFields.{RrFields}
 use Rattle.code.specs.declared.RrAction.{RrAction}
-use Rattle.code.specs.declared.RrAction.the-variants.{Registers, RegisterBranch}
+use Rattle.code.specs.declared.RrAction.the-variants.{Registers, RegisterBranch, PairAndRegister}
 use Rattle.code.specs.declared.RxFields.{RxFields}
 use Rattle.code.specs.declared.RxAction.{RxAction}
-use Rattle.code.specs.declared.RxAction.the-variants.{Taking, Storing, LoadAddress, AddressBranch}
+use Rattle.code.specs.declared.RxAction.the-variants.{Taking, Storing, LoadAddress, AddressBranch, PairAndWord}
 use Rattle.code.specs.declared.RsFields.{RsFields}
 use Rattle.code.specs.declared.RsAction.{RsAction}
-use Rattle.code.specs.declared.RsAction.the-variants.{LoadMultiple, StoreMultiple, ShiftLeft, ShiftRight, BranchHigh, BranchLowEqual}
+use Rattle.code.specs.declared.RsAction.the-variants.{LoadMultiple, StoreMultiple, ShiftLeft, ShiftRight, BranchHigh, BranchLowEqual, ShiftSigned, ShiftDouble}
 use Rattle.code.specs.declared.SiFields.{SiFields}
 use Rattle.code.specs.declared.SiAction.{SiAction}
 use Rattle.code.specs.declared.SiAction.the-variants.{CompareByte, TestMask, BitsByte, MoveByte}
@@ -32,8 +35,9 @@ use Rattle.code.specs.declared.SsAction.the-variants.{MoveField, CompareField}
 use Rattle.code.specs.Table.{actionOf}
 use Rattle.code.specs.Formats.{opOf, rrOf, rxOf, rsOf, siOf, ssOf}
 use Rattle.machine.specs.Prog.{Prog, done, fail, look, get, put}
-use Rattle.machine.specs.Fields.{looks, gets, puts, moves, compares, bytesOf, aligned, loading, storing, halfword}
+use Rattle.machine.specs.Fields.{looks, gets, puts, moves, compares, bytesOf, loading, storing, halfword}
 use Rattle.machine.specs.Cpu.{Cpu, reg, withReg, onward, ahead}
+use Rattle.machine.specs.Pairs.{pair, intoPair}
 use Rattle.machine.specs.Rr.{rr}
 use Rattle.machine.specs.Rx.{rx, widthOf, rxAddress}
 use Rattle.machine.specs.Rs.{rs, fills, spills, nextReg, nextWord, howMany, rsAddress}
@@ -128,21 +132,22 @@ module _ {R : Type 0} where
       ),
     )
 
-    aligned-behind : (n a : ℕ) (k : Prog R) → Behind L S k → Behind L S (aligned n a k)
+    -- a field off its boundary, an odd register where a pair is needed
+    tested-behind : (t : Bool) (a : ℕ) (k : Prog R) → Behind L S k → Behind L S (pick t k (fail 2 a))
     unfolding Behind
-    aligned-behind n a k h = pick-behind (eqb (a % n) 0) k (fail 2 a) h tt
+    tested-behind t a k h = pick-behind t k (fail 2 a) h tt
 
   module _ (L S : Addresses) where
     loading-behind : (n a : ℕ) (k : ℕ → Prog R) → ((L′ S′ : Addresses) (v : ℕ) → Behind L′ S′ (k v)) → Behind L S (loading n a k)
     unfolding loading
     loading-behind n a k h =
-        aligned-behind L S n a (looks Load a n (gets a n 0 k))
+        tested-behind L S (eqb (a % n) 0) a (looks Load a n (gets a n 0 k))
         (looks-behind Load a n (gets a n 0 k) L S (λ L′ S′ l s x t. gets-behind L′ S′ a n 0 k x (h L′ S′)))
 
     storing-behind : (n a v : ℕ) (k : Prog R) → ((L′ S′ : Addresses) → Behind L′ S′ k) → Behind L S (storing n a v k)
     unfolding storing
     storing-behind n a v k h =
-        aligned-behind L S n a (looks Store a n (puts a n v k))
+        tested-behind L S (eqb (a % n) 0) a (looks Store a n (puts a n v k))
         (looks-behind Store a n (puts a n v k) L S (λ L′ S′ l s x t. puts-behind L′ S′ a n v k (t refl) (h L′ S′)))
 
     halfword-behind : (a : ℕ) (k : ℕ → Prog R) → ((L′ S′ : Addresses) (v : ℕ) → Behind L′ S′ (k v)) → Behind L S (halfword a k)
@@ -183,11 +188,18 @@ module _ (L S : Addresses) where
       puts-behind L S a 4 (reg c r) (spills n (nextReg r) (nextWord a) c k) (word-of S a n h .0)
       (spills-behind n (nextReg r) (nextWord a) c k (word-of S a n h .1) b)
 
+  into-behind : (x : Paired) (len r : ℕ) (c : Cpu) → Behind L S (intoPair x len r c)
+  unfolding Behind intoPair
+  into-behind (Value v) len r c = tt
+  into-behind DivideError len r c = tt
+
 module _ (L S : Addresses) where
   rr-behind : (x : RrAction) (f : RrFields) (c : Cpu) → Behind L S (rr x f c)
   unfolding Behind rr
   rr-behind (Registers op) f c = tt
   rr-behind (RegisterBranch b) f c = tt
+  rr-behind (PairAndRegister op) f c =
+      tested-behind L S (eqb (f .r1 % 2) 0) (c .pc) _ (into-behind L S (pairOf op (pair c (f .r1)) (reg c (f .r2))) 2 (f .r1) c)
 
   rx-behind : (x : RxAction) (f : RxFields) (c : Cpu) → Behind L S (rx x f c)
   unfolding Behind rx
@@ -196,21 +208,26 @@ module _ (L S : Addresses) where
       storing-behind L S (bytesOf w) (rxAddress f c) (reg c (f .r1)) (done (onward c 4)) (λ L′ S′. tt)
   rx-behind LoadAddress f c = tt
   rx-behind (AddressBranch b) f c = tt
+  rx-behind (PairAndWord op) f c =
+      tested-behind L S (eqb (f .r1 % 2) 0) (c .pc) _
+      (loading-behind L S 4 (rxAddress f c) _ (λ L′ S′ v. into-behind L′ S′ (pairOf op (pair c (f .r1)) v) 4 (f .r1) c))
 
   rs-behind : (x : RsAction) (f : RsFields) (c : Cpu) → Behind L S (rs x f c)
   unfolding Behind rs
   rs-behind LoadMultiple f c =
-      aligned-behind L S 4 (rsAddress f c) _
+      tested-behind L S (eqb (rsAddress f c % 4) 0) (rsAddress f c) _
       (looks-behind Load (rsAddress f c) (howMany f * 4) _ L S
       (λ L′ S′ l s h t. fills-behind L′ S′ (howMany f) (f .r1) (rsAddress f c) (onward c 4) h))
   rs-behind StoreMultiple f c =
-      aligned-behind L S 4 (rsAddress f c) _
+      tested-behind L S (eqb (rsAddress f c % 4) 0) (rsAddress f c) _
       (looks-behind Store (rsAddress f c) (howMany f * 4) _ L S
       (λ L′ S′ l s h t. spills-behind L′ S′ (howMany f) (f .r1) (rsAddress f c) c (done (onward c 4)) (t refl) tt))
   rs-behind ShiftLeft f c = tt
   rs-behind ShiftRight f c = tt
   rs-behind BranchHigh f c = tt
   rs-behind BranchLowEqual f c = tt
+  rs-behind (ShiftSigned d) f c = tt
+  rs-behind (ShiftDouble d) f c = tested-behind L S (eqb (f .r1 % 2) 0) (c .pc) _ tt
 
   si-behind : (x : SiAction) (f : SiFields) (c : Cpu) → Behind L S (si x f c)
   unfolding Behind si

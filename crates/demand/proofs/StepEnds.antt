@@ -1,8 +1,9 @@
--- How a step can end. Its own refusals have numbers of document 01's table; what it is done with is a state in range; and a refusal hands
--- back the store that it began with. The first two go once through all actions.
-use Prim.Native.Nat.{ℕ, zero, suc, _+_, _*_, _%_, _<_, _≤_}
+-- How a step can end. Its refusals have demand 1's numbers; what it is done with is a state in range; and a refusal hands back the store
+-- that it began with. The first two go once through all actions.
+use Prim.Native.Nat.{ℕ, zero, suc, _+_, _*_, _%_, _<_}
 use native.Mathlib.Omega.{arith}
-use mathlib.Core.Path.{_≡_, refl, sym, _∙_, ap}
+use mathlib.Core.Path.{_≡_, refl, _∙_}
+use mathlib.Core.Logic.{inl, inr}
 use mathlib.Core.Bool.{Bool, true, false, not}
 use lib.Dec.{eqb, ltb}
 use lib.Bits.{bitAnd}
@@ -11,11 +12,17 @@ use lib.Signed.{ltZ}
 use lib.ListN.{length, length-set}
 use Rattle.words.specs.Pick.{pick, both}
 use Rattle.words.specs.declared.Alu.{Alu}
-use Rattle.words.specs.declared.Alu.the-variants.{Load, Test, Complement, Positive, Negative, Add, Subtract, Compare, AddLogical, SubtractLogical, CompareLogical, Bits}
+use Rattle.words.specs.declared.Alu.the-variants.{Load, Test, Complement, Positive, Negative, Add, Subtract, Compare, AddLogical, SubtractLogical, CompareLogical, Bits, LowProduct}
 use Rattle.words.specs.declared.Res.{Res}
-use Rattle.words.specs.Whole.{wordTop, overflows}
+use Rattle.words.specs.declared.Paired.{Paired}
+use Rattle.words.specs.declared.Paired.the-variants.{Value, DivideError}
+use Rattle.words.specs.declared.Direction.{Direction}
+use Rattle.words.specs.declared.Direction.the-variants.{Left, Right}
+use Rattle.words.specs.Whole.{wordTop, doubleTop, overflows}
 use Rattle.words.specs.Codes.{signCode, compareSigned, compareBits, zeroCode, maskCode}
-use Rattle.words.specs.Combine.{combineOf, resultOf, signedResult, carried}
+use Rattle.words.specs.Combine.{combineOf, signedResult, carried}
+use Rattle.words.specs.Wide.{pairOf}
+use Rattle.words.specs.SignedShifts.{leftward, rightward, shiftedOf}
 use Rattle.pages.specs.declared.Access.{Access}
 use Rattle.pages.specs.declared.Access.the-variants as access
 use Rattle.pages.specs.declared.Cause.{Cause}
@@ -23,7 +30,7 @@ use Rattle.pages.specs.declared.Cause.the-variants.{Addressing, PagingQueue, Pa
 use Rattle.pages.specs.Tests.{Verdict, fine, bad, numberOf}
 use Rattle.pages.specs.Word.{next}
 use Rattle.code.specs.declared.Operand.{Operand}
-use Rattle.code.specs.declared.Operand.the-variants.{WordWith, HalfSpread, ByteInserted}
+use Rattle.code.specs.declared.Operand.the-variants.{WordWith, HalfWith, ByteInserted}
 use Rattle.code.specs.declared.Branch.{Branch}
 use Rattle.code.specs.declared.Branch.the-variants.{OnCondition, AndLink, OnCount}
 use Rattle.code.specs.declared.Action.{Action}
@@ -32,13 +39,13 @@ use Rattle.code.specs.declared.Found.{Found}
 use Rattle.code.specs.declared.Found.the-variants.{Known, Unknown}
 use Rattle.code.specs.declared.RrFields.{RrFields}
 use Rattle.code.specs.declared.RrAction.{RrAction}
-use Rattle.code.specs.declared.RrAction.the-variants.{Registers, RegisterBranch}
+use Rattle.code.specs.declared.RrAction.the-variants.{Registers, RegisterBranch, PairAndRegister}
 use Rattle.code.specs.declared.RxFields.{RxFields}
 use Rattle.code.specs.declared.RxAction.{RxAction}
-use Rattle.code.specs.declared.RxAction.the-variants.{Taking, Storing, LoadAddress, AddressBranch}
+use Rattle.code.specs.declared.RxAction.the-variants.{Taking, Storing, LoadAddress, AddressBranch, PairAndWord}
 use Rattle.code.specs.declared.RsFields.{RsFields}
 use Rattle.code.specs.declared.RsAction.{RsAction}
-use Rattle.code.specs.declared.RsAction.the-variants.{LoadMultiple, StoreMultiple, ShiftLeft, ShiftRight, BranchHigh, BranchLowEqual}
+use Rattle.code.specs.declared.RsAction.the-variants.{LoadMultiple, StoreMultiple, ShiftLeft, ShiftRight, BranchHigh, BranchLowEqual, ShiftSigned, ShiftDouble}
 use Rattle.code.specs.declared.SiFields.{SiFields}
 use Rattle.code.specs.declared.SiAction.{SiAction}
 use Rattle.code.specs.declared.SiAction.the-variants.{CompareByte, TestMask, BitsByte, MoveByte}
@@ -48,15 +55,17 @@ use Rattle.code.specs.declared.SsAction.the-variants.{MoveField, CompareField}
 use Rattle.code.specs.Table.{actionOf}
 use Rattle.code.specs.Formats.{opOf, rrOf, rxOf, rsOf, siOf, ssOf}
 use Rattle.machine.specs.Prog.{Prog, done, fail, look, get, put, Ops, Answer, finished, refused, after, interp}
-use Rattle.machine.specs.Fields.{looks, gets, puts, moves, compares, bytesOf, aligned, loading, storing, halfword}
+use Rattle.machine.specs.Fields.{looks, gets, puts, moves, compares, bytesOf, loading, storing, halfword}
 use Rattle.machine.specs.Cpu.{Cpu, reg, withReg, withCode, withPc, withRes, ahead, onward, address, target}
+use Rattle.machine.specs.Pairs.{pair, withPair, intoPair}
 use Rattle.machine.specs.Branches.{going, chosen, link, lessOne, branch}
 use Rattle.machine.specs.Rr.{rr}
 use Rattle.machine.specs.Rx.{taken, rx, widthOf, rxAddress}
-use Rattle.machine.specs.Rs.{rs, fills, spills, nextReg, nextWord, howMany, rsAddress, isHigh, indexSum}
+use Rattle.machine.specs.Rs.{rs, fills, spills, nextReg, nextWord, howMany, rsAddress, isHigh, indexSum, shiftedWord, shiftedPair}
 use Rattle.machine.specs.Si.{si}
 use Rattle.machine.specs.Ss.{ss, firstAddress, secondAddress}
 use Rattle.machine.specs.Step.{act, known, step}
+use Rattle.demand.specs.DemandOne.{Refusal}
 
 -- a state in range, as number 6 asks for it
 pub record Sound (c : Cpu) : Type 0 where
@@ -65,20 +74,19 @@ pub record Sound (c : Cpu) : Type 0 where
   pub code : c .code < 4
   pub mask : c .mask < 16
 
--- the numbers of a refused instruction
-abbrev pub Refusal : ℕ → Type 0
-Refusal n = (1 ≤ n) × (n ≤ 5)
-
 pub caused : (c : Cause) → Refusal (numberOf c)
-caused Addressing = (omega arith, omega arith)
-caused PagingQueue = (omega arith, omega arith)
-caused PagingError = (omega arith, omega arith)
+caused Addressing = inl (omega arith, omega arith)
+caused PagingQueue = inl (omega arith, omega arith)
+caused PagingError = inl (omega arith, omega arith)
 
 two : Refusal 2
-two = (omega arith, omega arith)
+two = inl (omega arith, omega arith)
 
 five : Refusal 5
-five = (omega arith, omega arith)
+five = inl (omega arith, omega arith)
+
+eight : Refusal 8
+eight = inr refl
 
 -- every way out of a program: refused by itself with such a number, or done with such a result
 unfoldable pub Ends : {R : Type 0} → (R → Type 0) → Prog R → Type 0
@@ -113,17 +121,18 @@ module _ {R : Type 0} (D : R → Type 0) where
   pick-ends true p q h i = h
   pick-ends false p q h i = i
 
-  aligned-ends : (n a : ℕ) (k : Prog R) → Ends D k → Ends D (aligned n a k)
+  -- a field off its boundary, an odd register where a pair is needed
+  tested-ends : (t : Bool) (a : ℕ) (k : Prog R) → Ends D k → Ends D (pick t k (fail 2 a))
   unfolding Ends
-  aligned-ends n a k h = pick-ends (eqb (a % n) 0) k (fail 2 a) h two
+  tested-ends t a k h = pick-ends t k (fail 2 a) h two
 
   loading-ends : (n a : ℕ) (k : ℕ → Prog R) → ((v : ℕ) → Ends D (k v)) → Ends D (loading n a k)
   unfolding loading
-  loading-ends n a k h = aligned-ends n a _ (looks-ends access.Load a n _ (gets-ends a n 0 k h))
+  loading-ends n a k h = tested-ends (eqb (a % n) 0) a _ (looks-ends access.Load a n _ (gets-ends a n 0 k h))
 
   storing-ends : (n a v : ℕ) (k : Prog R) → Ends D k → Ends D (storing n a v k)
   unfolding storing
-  storing-ends n a v k h = aligned-ends n a _ (looks-ends access.Store a n _ (puts-ends a n v k h))
+  storing-ends n a v k h = tested-ends (eqb (a % n) 0) a _ (looks-ends access.Store a n _ (puts-ends a n v k h))
 
   halfword-ends : (a : ℕ) (k : ℕ → Prog R) → ((v : ℕ) → Ends D (k v)) → Ends D (halfword a k)
   unfolding halfword
@@ -158,9 +167,21 @@ unfolding maskCode
 mask-small b m =
     pick-small 4 (eqb (bitAnd b m) 0) 0 _ (omega arith) (pick-small 4 (eqb (bitAnd b m) m) 3 1 (omega arith) (omega arith))
 
+three-small : (over : Bool) (z : ℤ) → pick over 3 (signCode z) < 4
+three-small over z = pick-small 4 over 3 (signCode z) (omega arith) (sign-small z)
+
 result-small : (z : ℤ) → (signedResult z) .code < 4
 unfolding signedResult
-result-small z = pick-small 4 (overflows wordTop z) 3 (signCode z) (omega arith) (sign-small z)
+result-small z = three-small (overflows wordTop z) z
+
+left-small : (top a : ℕ) (z : ℤ) → (leftward top a z) .code < 4
+unfolding leftward
+left-small top a z = three-small (overflows top z) z
+
+shifted-small : (d : Direction) (top a n : ℕ) → (shiftedOf d top a n) .code < 4
+unfolding shiftedOf rightward
+shifted-small Left top a n = left-small top a _
+shifted-small Right top a n = sign-small _
 
 carried-small : (s : ℕ) → (carried s) .code < 4
 unfolding carried
@@ -181,17 +202,21 @@ combine-small AddLogical a b k h = carried-small _
 combine-small SubtractLogical a b k h = carried-small _
 combine-small CompareLogical a b k h = bits-small a b
 combine-small (Bits l) a b k h = zero-four _
+combine-small LowProduct a b k h = h
 
 taken-small : (op : Operand) (a v k : ℕ) → k < 4 → (taken op a v k) .code < 4
 unfolding taken
 taken-small (WordWith op) a v k h = combine-small op a v k h
-taken-small HalfSpread a v k h = h
+taken-small (HalfWith op) a v k h = combine-small op a _ k h
 taken-small ByteInserted a v k h = h
 
 -- a state in range stays so
 pub reg-sound : (c : Cpu) (i v : ℕ) → Sound c → Sound (withReg c i v)
 reg-sound c i v h =
     record { regs = length-set (c .regs) i v ∙ h .regs; pc = h .pc; code = h .code; mask = h .mask }
+
+pair-sound : (c : Cpu) (r v : ℕ) → Sound c → Sound (withPair c r v)
+pair-sound c r v h = reg-sound (withReg c r _) (r + 1) _ (reg-sound c r _ h)
 
 code-sound : (c : Cpu) (k : ℕ) → k < 4 → Sound c → Sound (withCode c k)
 code-sound c k l h = record { regs = h .regs; pc = h .pc; code = l; mask = h .mask }
@@ -245,12 +270,19 @@ spills-ends (suc n) r a c k h =
     puts-ends Sound a 4 (reg c r) _ (spills-ends n (nextReg r) (nextWord a) c k h)
 
 module _ (c : Cpu) (h : Sound c) where
+  into-ends : (x : Paired) (len r : ℕ) → Ends Sound (intoPair x len r c)
+  unfolding Ends intoPair
+  into-ends (Value v) len r = pair-sound (onward c len) r v (ahead-sound c len h)
+  into-ends DivideError len r = eight
+
   rr-ends : (x : RrAction) (f : RrFields) → Ends Sound (rr x f c)
   unfolding Ends rr
   rr-ends (Registers op) f =
       res-sound (onward c 2) (f .r1) (combineOf op (reg c (f .r1)) (reg c (f .r2)) (c .code))
       (combine-small op (reg c (f .r1)) (reg c (f .r2)) (c .code) (h .code)) (ahead-sound c 2 h)
   rr-ends (RegisterBranch b) f = branch-sound b 2 (f .r1) (target c (f .r2)) (ltb 0 (f .r2)) c (omega arith) h
+  rr-ends (PairAndRegister op) f =
+      tested-ends Sound (eqb (f .r1 % 2) 0) (c .pc) _ (into-ends (pairOf op (pair c (f .r1)) (reg c (f .r2))) 2 (f .r1))
 
   rx-ends : (x : RxAction) (f : RxFields) → Ends Sound (rx x f c)
   unfolding Ends rx
@@ -263,6 +295,9 @@ module _ (c : Cpu) (h : Sound c) where
   rx-ends LoadAddress f = reg-sound (onward c 4) (f .r1) (rxAddress f c) (ahead-sound c 4 h)
   rx-ends (AddressBranch b) f =
       branch-sound b 4 (f .r1) (rxAddress f c) true c (address-small c (f .x2) (f .b2) (f .d2)) h
+  rx-ends (PairAndWord op) f =
+      tested-ends Sound (eqb (f .r1 % 2) 0) (c .pc) _
+      (loading-ends Sound 4 (rxAddress f c) _ (λ v. into-ends (pairOf op (pair c (f .r1)) v) 4 (f .r1)))
 
   index-sound : (b : Bool) (f : RsFields) → Sound (going b (rsAddress f c) (withReg (onward c 4) (f .r1) (indexSum f c)))
   index-sound b f =
@@ -270,19 +305,26 @@ module _ (c : Cpu) (h : Sound c) where
       (reg-sound (onward c 4) (f .r1) (indexSum f c) (ahead-sound c 4 h))
 
   rs-ends : (x : RsAction) (f : RsFields) → Ends Sound (rs x f c)
-  unfolding Ends rs
+  unfolding Ends rs shiftedWord shiftedPair
   rs-ends LoadMultiple f =
-      aligned-ends Sound 4 (rsAddress f c) _
+      tested-ends Sound (eqb (rsAddress f c % 4) 0) (rsAddress f c) _
       (looks-ends Sound access.Load (rsAddress f c) (howMany f * 4) _
       (fills-ends (howMany f) (f .r1) (rsAddress f c) (onward c 4) (ahead-sound c 4 h)))
   rs-ends StoreMultiple f =
-      aligned-ends Sound 4 (rsAddress f c) _
+      tested-ends Sound (eqb (rsAddress f c % 4) 0) (rsAddress f c) _
       (looks-ends Sound access.Store (rsAddress f c) (howMany f * 4) _
       (spills-ends (howMany f) (f .r1) (rsAddress f c) c (done (onward c 4)) (ahead-sound c 4 h)))
   rs-ends ShiftLeft f = reg-sound (onward c 4) (f .r1) _ (ahead-sound c 4 h)
   rs-ends ShiftRight f = reg-sound (onward c 4) (f .r1) _ (ahead-sound c 4 h)
   rs-ends BranchHigh f = index-sound (isHigh f c) f
   rs-ends BranchLowEqual f = index-sound (not (isHigh f c)) f
+  rs-ends (ShiftSigned d) f =
+      code-sound (withReg (onward c 4) (f .r1) (shiftedWord d f c .value)) (shiftedWord d f c .code)
+      (shifted-small d wordTop (reg c (f .r1)) (rsAddress f c)) (reg-sound (onward c 4) (f .r1) _ (ahead-sound c 4 h))
+  rs-ends (ShiftDouble d) f =
+      tested-ends Sound (eqb (f .r1 % 2) 0) (c .pc) _
+      (code-sound (withPair (onward c 4) (f .r1) (shiftedPair d f c .value)) (shiftedPair d f c .code)
+      (shifted-small d doubleTop (pair c (f .r1)) (rsAddress f c)) (pair-sound (onward c 4) (f .r1) _ (ahead-sound c 4 h)))
 
   si-ends : (x : SiAction) (f : SiFields) → Ends Sound (si x f c)
   unfolding Ends si

@@ -2,11 +2,15 @@
 -- and `runOutcome`, and nothing further down; proofs/DemandOneHolds proves each.
 use Prim.Native.Nat.{ℕ, _<_, _≤_}
 use mathlib.Core.Path.{_≡_}
-use mathlib.Core.Logic.{_≢_}
-use mathlib.Core.Bool.{Bool, true, false}
+use mathlib.Core.Logic.{_≢_, _⊎_}
+use mathlib.Core.Bool.{true, false}
 use lib.Dec.{leb}
 use Rattle.words.specs.Pick.{both}
 use Rattle.machine.specs.Machine.{Given, Outcome, given, outcome, proper, stepOutcome, runOutcome}
+
+-- The numbers of a refused instruction: 1 to 5, and 8.
+abbrev pub Refusal : ℕ → Type 0
+Refusal n = ((1 ≤ n) × (n ≤ 5)) ⊎ (n ≡ 8)
 
 -- What was handed back, as it would be lent to the next call: memory, map, registers, counter, code, mask. So `handed o ≡ g` says that
 -- nothing at all was altered.
@@ -31,8 +35,8 @@ refusedAt o =
 
 -- A single step from g that handed back o.
 pub record CleanStep (g : Given) (o : Outcome) : Type 0 where
-  -- 0 completed, 1 to 5 refused, 6 turned away: no other number comes
-  pub number : o .reply .number ≤ 6
+  -- completed, refused, or turned away: no other number comes
+  pub number : (o .reply .number ≡ 0) ⊎ Refusal (o .reply .number) ⊎ (o .reply .number ≡ 6)
   -- 6 comes exactly where a list has the wrong size, or counter, code or mask is out of range
   pub six : o .reply .number ≡ 6 → proper g ≡ false
   pub always-six : proper g ≡ false → o .reply .number ≡ 6
@@ -47,9 +51,8 @@ pub record CleanStep (g : Given) (o : Outcome) : Type 0 where
 
 -- A run of this budget from g that handed back o.
 pub record CleanRun (budget : ℕ) (g : Given) (o : Outcome) : Type 0 where
-  -- 1 to 5 refused, 6 turned away, 7 budget spent: no other number comes
-  pub number : o .reply .number ≤ 7
-  pub some : o .reply .number ≢ 0
+  -- refused, turned away, or budget spent: no other number comes
+  pub number : Refusal (o .reply .number) ⊎ (o .reply .number ≡ 6) ⊎ (o .reply .number ≡ 7)
   -- 6 comes exactly where a list has the wrong size, or counter, code, mask or budget is out of range; then nothing is altered
   pub six : o .reply .number ≡ 6 → both (proper g) (leb budget 65535) ≡ false
   pub always-six : both (proper g) (leb budget 65535) ≡ false → o .reply .number ≡ 6
@@ -61,9 +64,9 @@ pub record CleanRun (budget : ℕ) (g : Given) (o : Outcome) : Type 0 where
   -- what is handed back is what the run of exactly `count` steps hands back, and that run completes them all
   pub named : handed o ≡ handed (runOutcome (o .reply .count) g)
   pub counted : (runOutcome (o .reply .count) g) .reply .count ≡ o .reply .count
-  -- refused (1 to 5): budget was left, and the one step more, from what is handed back, is refused with this number at this place and
+  -- refused: budget was left, and the one step more, from what is handed back, is refused with this number at this place and
   -- leaves everything as it was before that instruction
-  pub refused : o .reply .number < 6 → (o .reply .count < budget) × (stepOutcome (handed o) ≡ refusedAt o)
+  pub refused : Refusal (o .reply .number) → (o .reply .count < budget) × (stepOutcome (handed o) ≡ refusedAt o)
   -- what was proper stays so
   pub again : proper g ≡ true → proper (handed o) ≡ true
 

@@ -4,10 +4,13 @@ use mathlib.Core.List.{[]}
 use Rattle.slips.specs.Row.{unshown}
 use Rattle.slips.specs.Seen.{computes}
 use Rattle.slips.specs.Words as words
+use Rattle.slips.specs.Wide as wide
 use Rattle.slips.specs.Pages as pages
 use Rattle.slips.specs.Moves as moves
 use Rattle.slips.specs.Refusals as refusals
 use Rattle.slips.specs.Operations as operations
+use Rattle.slips.specs.Pairs as pairs
+use Rattle.slips.specs.SignedShifts as shifts
 use Rattle.slips.specs.Branches as branches
 use Rattle.slips.specs.Order as order
 use Rattle.slips.specs.Runs as runs
@@ -19,6 +22,10 @@ use Rattle.slips.specs.Plain as plain
 pub words-shown : unshown words.slips ≡ []
 unfolding computes
 words-shown = refl
+
+pub wide-shown : unshown wide.slips ≡ []
+unfolding computes
+wide-shown = refl
 
 pub pages-shown : unshown pages.slips ≡ []
 unfolding computes
@@ -35,6 +42,14 @@ refusals-shown = refl
 pub operations-shown : unshown operations.slips ≡ []
 unfolding computes
 operations-shown = refl
+
+pub pairs-shown : unshown pairs.slips ≡ []
+unfolding computes
+pairs-shown = refl
+
+pub shifts-shown : unshown shifts.slips ≡ []
+unfolding computes
+shifts-shown = refl
 
 pub branches-shown : unshown branches.slips ≡ []
 unfolding computes

@@ -2,10 +2,13 @@
 pub mod Row
 pub mod Seen
 pub mod Words
+pub mod Wide
 pub mod Pages
 pub mod Moves
 pub mod Refusals
 pub mod Operations
+pub mod Pairs
+pub mod SignedShifts
 pub mod Branches
 pub mod Order
 pub mod Runs

@@ -1,17 +1,20 @@
--- Slips in loads, stores and shifts, one operation each. All are of `engine::step`.
-use Prim.Native.Nat.{_+_, _-_, _*_, _/_, _%_}
+-- Slips in loads, stores, shifts and operations with a halfword, one operation each. All are of `engine::step`.
+use Prim.Native.Nat.{ℕ, _+_, _-_, _*_, _/_, _%_}
+use Prim.Native.String.{String}
 use mathlib.Core.List.{List, [], _∷_}
 use lib.Dec.{ltb}
+use Rattle.words.specs.declared.Alu.{Alu}
+use Rattle.words.specs.declared.Alu.the-variants.{Add, Subtract, Compare, LowProduct}
 use Rattle.words.specs.Pick.{pick}
 use Rattle.words.specs.Codes.{zeroCode}
-use Rattle.words.specs.Combine.{shiftedLeft}
+use Rattle.words.specs.Combine.{combineOf, shiftedLeft}
 use Rattle.pages.specs.declared.Access.the-variants.{Load, Store}
 use Rattle.pages.specs.Word.{next}
 use Rattle.code.specs.declared.RxFields.{RxFields}
 use Rattle.code.specs.declared.RsFields.{RsFields}
 use Rattle.machine.specs.Prog.{Prog, done, put}
-use Rattle.machine.specs.Fields.{looks, aligned, storing}
-use Rattle.machine.specs.Cpu.{Cpu, reg, withReg, withCode, onward, part}
+use Rattle.machine.specs.Fields.{looks, aligned, loading, storing}
+use Rattle.machine.specs.Cpu.{Cpu, reg, withReg, withCode, withRes, onward, part}
 use Rattle.machine.specs.Rx.{rxAddress}
 use Rattle.machine.specs.Rs.{rsAddress, howMany, fills}
 use Rattle.slips.specs.Row.{Row}
@@ -52,6 +55,17 @@ coded f c =
     let v = shiftedLeft (reg c (f .r1)) (rsAddress f c) in
     done (withCode (withReg (onward c 4) (f .r1) v) (zeroCode v))
 
+-- a halfword operand widened with zeros
+abbrev unspread : Alu → RxFields → Cpu → Prog Cpu
+unspread op f c =
+    loading 2 (rxAddress f c) (λ v. done (withRes (onward c 4) (f .r1) (combineOf op (reg c (f .r1)) v (c .code))))
+
+-- this operation on 5 in register 1 and the halfword FFFF, so widened: R1 is 1, and the address 8(2)
+abbrev halfwords : String → ℕ → Alu → ℕ → ℕ → Row
+halfwords slip op alu one other =
+    operation slip op (asRx (unspread alu))
+    (lone (op ∷ 0x10 ∷ 0x20 ∷ 8 ∷ 0 ∷ 0 ∷ 0 ∷ 0 ∷ 0xff ∷ 0xff ∷ []) (0 ∷ 5 ∷ 0xa000 ∷ [])) one other
+
 abbrev pub slips : List Row
 slips =
     -- ST 1,0(2,3): 00A00C and FFFFFC
@@ -69,4 +83,8 @@ slips =
     (lone (0x98 ∷ 0xf0 ∷ 0x20 ∷ 8 ∷ 0 ∷ 0 ∷ 0 ∷ 0 ∷ 1 ∷ 2 ∷ 3 ∷ 4 ∷ 5 ∷ 6 ∷ 7 ∷ 8 ∷ []) (0 ∷ 0 ∷ 0xa000 ∷ [])) 0x05060708 0
     -- SLL 1,1
     ∷ operation "a condition code after SLL" 0x89 (asRs coded) (lone (0x89 ∷ 0x10 ∷ 0 ∷ 1 ∷ []) (0 ∷ 3 ∷ [])) 0 1
+    ∷ halfwords "AH without the halfword's sign" 0x4a Add 4 65540
+    ∷ halfwords "SH without the halfword's sign" 0x4b Subtract 2 1
+    ∷ halfwords "CH without the halfword's sign" 0x49 Compare 2 1
+    ∷ halfwords "MH without the halfword's sign" 0x4c LowProduct 0xfffffffb 327675
     ∷ []

@@ -22,7 +22,7 @@ abbrev pub writtenAnyway : Framed → Framed → Access → ℕ → Framed
 writtenAnyway kept s acc a = framedOf (kept .mem) (pick (isStore acc) (writtenAt (kept .map) a) (kept .map))
 
 -- G set by what a refused instruction had looked up so far
-abbrev accessedAnyway : Framed → Framed → Access → ℕ → Framed
+abbrev pub accessedAnyway : Framed → Framed → Access → ℕ → Framed
 accessedAnyway kept s acc a = framedOf (kept .mem) (s .map)
 
 -- a program that looks nothing up
@@ -34,7 +34,7 @@ blind (get a k) = get a (λ v. blind (k v))
 blind (put a v k) = put a v (blind k)
 
 -- where the step is refused, the state is not the one before, but what this makes of it
-abbrev stepSpoiling : (Given → Cpu) → Given → Outcome
+abbrev pub stepSpoiling : (Given → Cpu) → Given → Outcome
 stepSpoiling spoilt = behindDoor (λ g. told g (interp framed (step (cpuIn g)) (storeIn g) (storeIn g)))
   where
     told : Given → Answer Cpu Framed → Result Cpu Framed

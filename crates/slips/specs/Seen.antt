@@ -9,6 +9,8 @@ use Rattle.words.specs.Pick.{pick}
 use Rattle.words.specs.Whole.{signed, kept, overflows, spread}
 use Rattle.words.specs.Codes.{signCode, compareSigned, compareBits, zeroCode, maskCode}
 use Rattle.words.specs.Combine.{signedResult, carried, logicOf, combineOf, shiftedLeft, shiftedRight}
+use Rattle.words.specs.Wide.{productOf, quotientOf, remainderOf, pairOf}
+use Rattle.words.specs.SignedShifts.{signBit, leftward, rightward, shiftedOf}
 use Rattle.pages.specs.declared.Access.{Access}
 use Rattle.pages.specs.declared.Access.the-variants.{Fetch}
 use Rattle.pages.specs.Word.{bitG, bitU, bitS, bitE, bitM, bitH, bitsX, frame, pageOf, dispOf, next, base, size, real, wordOf, accessed, written}
@@ -27,10 +29,11 @@ use Rattle.machine.specs.Run.{Result, one, run}
 use Rattle.machine.specs.Store.{framed}
 use Rattle.machine.specs.Fields.{looks, gets, puts, moves, compares, loading, storing, halfword}
 use Rattle.machine.specs.Cpu.{Cpu, reg, ahead, part, address}
+use Rattle.machine.specs.Pairs.{pair, intoPair}
 use Rattle.machine.specs.Branches.{chosen, link, lessOne, branch}
 use Rattle.machine.specs.Rr.{rr}
 use Rattle.machine.specs.Rx.{taken, rx}
-use Rattle.machine.specs.Rs.{fills, spills, indexSum, comparand, isHigh, rs}
+use Rattle.machine.specs.Rs.{fills, spills, indexSum, comparand, isHigh, shiftedWord, shiftedPair, rs}
 use Rattle.machine.specs.Si.{si}
 use Rattle.machine.specs.Ss.{ss}
 use Rattle.machine.specs.Step.{act, known, step}
@@ -40,10 +43,11 @@ use Rattle.slips.specs.Row.{Row, row}
 -- the definitions that the tables of machines compute
 unfoldable pub computes : Unit {0}
 unfolding signed kept overflows spread signCode compareSigned compareBits zeroCode maskCode signedResult carried logicOf combineOf
-    shiftedLeft shiftedRight bitG bitU bitS bitE bitM bitH bitsX frame pageOf dispOf next base size real wordOf accessed written
-    tests.sixTests tests.tests lookOf realOf ordinary compact accessedAt writtenAt readByte writeByte code.table code.actionOf interp run looks
-    gets puts moves compares loading storing halfword reg ahead part address chosen link lessOne branch rr taken rx fills spills indexSum
-    comparand isHigh rs si ss act step proper stepOutcome runOutcome
+    shiftedLeft shiftedRight productOf quotientOf remainderOf pairOf signBit leftward rightward shiftedOf bitG bitU bitS bitE bitM bitH
+    bitsX frame pageOf dispOf next base size real wordOf accessed written tests.sixTests tests.tests lookOf realOf ordinary compact
+    accessedAt writtenAt readByte writeByte code.table code.actionOf interp run looks gets puts moves compares loading storing halfword
+    reg ahead part address pair intoPair chosen link lessOne branch rr taken rx fills spills indexSum comparand isHigh shiftedWord
+    shiftedPair rs si ss act step proper stepOutcome runOutcome
 computes = tt
 
 -- Memory is one frame, and pages 10 and 11 both lie on it: page 10 with word 3000, page 11 with the word that is said. So what follows

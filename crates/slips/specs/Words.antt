@@ -5,15 +5,15 @@ use mathlib.Core.Bool.{Bool, not}
 use mathlib.Core.List.{List, [], _∷_}
 use lib.Dec.{eqb}
 use lib.Bits.{bitAnd}
-use lib.IntN.{ℤ, pos, negℤ, _+ℤ_, _-ℤ_}
+use lib.IntN.{ℤ, pos, negℤ, _+ℤ_, _-ℤ_, _*ℤ_}
 use lib.Signed.{ltZ}
 use Rattle.words.specs.declared.Alu.{Alu}
 use Rattle.words.specs.declared.Res.{Res}
-use Rattle.words.specs.declared.Alu.the-variants.{Complement, Add, Subtract, SubtractLogical, CompareLogical}
+use Rattle.words.specs.declared.Alu.the-variants.{Complement, Add, Subtract, SubtractLogical, CompareLogical, LowProduct}
 use Rattle.words.specs.Pick.{pick, either}
 use Rattle.words.specs.Whole.{wordTop, signed, kept, spread}
 use Rattle.words.specs.Codes.{signCode, compareSigned, maskCode}
-use Rattle.words.specs.Combine.{resultOf, carried, combineOf, shiftedLeft}
+use Rattle.words.specs.Combine.{resultOf, signedResult, carried, combineOf, shiftedLeft}
 use Rattle.slips.specs.Row.{Row, row}
 
 -- a logical subtract that adds the complement alone
@@ -46,6 +46,10 @@ bySign a b =
 abbrev signedCompare : ℕ → ℕ → Res
 signedCompare a b = resultOf a (compareSigned (signed wordTop a) (signed wordTop b))
 
+-- a product of MH that tells where its low word is not all of it
+abbrev toldProduct : ℕ → ℕ → Res
+toldProduct a b = signedResult (signed wordTop a *ℤ signed wordTop b)
+
 -- a shift by the low five bits
 abbrev fiveBits : ℕ → ℕ → ℕ
 fiveBits a n = a * 2 ^ (n % 32) % 4294967296
@@ -75,6 +79,7 @@ slips =
     ∷ results "overflow of a signed subtract by the manual's garbled test" Subtract garbled 5 3 2 3
     ∷ results "LCR of 80000000 without overflow" Complement bySign 0 0x80000000 3 1
     ∷ results "a compare signed where it is logical" CompareLogical signedCompare 0x80000000 1 2 1
+    ∷ results "MH with overflow" LowProduct toldProduct 0x7fffffff 2 0 3
     -- arithmetic::shift_left and mask_code
     ∷ numbers "shift amounts of five bits" shiftedLeft fiveBits 1 32 0 1
     ∷ numbers "TM with mask 0 as code 3" maskCode onesFirst 0x5a 0 0 3
