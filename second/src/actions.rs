@@ -9,29 +9,38 @@ use crate::results::{
 
 /// An instruction at work. `old` keeps the registers as they were, so that
 /// each of them is read before any is changed.
-struct Work<'a> {
-    parts: &'a Parts,
+pub(crate) struct Work<'a> {
+    pub(crate) parts: &'a Parts,
     /// Where the bytes of each operand lie.
     places: &'a [Vec<usize>],
-    old: Vec<u32>,
+    pub(crate) old: Vec<u32>,
 }
 
 impl Machine {
-    /// Does the instruction.
-    pub(crate) fn execute(&mut self, parts: &Parts, places: &[Vec<usize>]) {
-        let work = Work {
+    /// An instruction about to be done.
+    pub(crate) fn work<'a>(&self, parts: &'a Parts, places: &'a [Vec<usize>]) -> Work<'a> {
+        Work {
             parts,
             places,
             old: self.registers.clone(),
-        };
+        }
+    }
+
+    /// Does the instruction.
+    pub(crate) fn execute(&mut self, parts: &Parts, places: &[Vec<usize>]) {
+        let work = self.work(parts, places);
         self.counter = parts.next;
         match parts.code {
             op::LR | op::L | op::LH | op::LA | op::IC => self.load(&work),
             op::LTR | op::LCR | op::LPR | op::LNR => self.load_and_test(&work),
             op::ST | op::STH | op::STC => self.store(work.old[parts.r1], &places[0]),
             op::LM | op::STM => self.multiple(&work),
-            op::CR | op::C | op::CLR | op::CL => self.compare(&work),
+            op::CR | op::C | op::CH | op::CLR | op::CL => self.compare(&work),
             op::SLL | op::SRL => self.shift(&work),
+            op::SLA | op::SRA => self.shift_word(&work),
+            op::SLDA | op::SRDA => self.shift_pair(&work),
+            op::MR | op::M | op::MH => self.multiply(&work),
+            op::DR | op::D => self.divide(&work),
             op::CLI | op::NI | op::OI | op::XI | op::TM | op::MVI => self.immediate(&work),
             op::MVC => self.move_bytes(&work),
             op::CLC => self.compare_bytes(&work),
@@ -45,8 +54,7 @@ impl Machine {
         let (r1, r2) = (work.parts.r1, work.parts.r2);
         self.registers[r1] = match work.parts.code {
             op::LR => work.old[r2],
-            op::L => self.number_at(&work.places[0]),
-            op::LH => widened(self.number_at(&work.places[0])),
+            op::L | op::LH => self.second_word(work),
             op::LA => work.parts.second,
             op::IC => (work.old[r1] & 0xFFFF_FF00) + self.number_at(&work.places[0]),
             other => unreachable!("{other:02X} is no load"),
@@ -87,8 +95,8 @@ impl Machine {
     fn combine(&mut self, work: &Work) {
         let (a, b) = (work.old[work.parts.r1], self.second_word(work));
         let (result, code) = match work.parts.code {
-            op::AR | op::A => signed_add(a, b),
-            op::SR | op::S => signed_subtract(a, b),
+            op::AR | op::A | op::AH => signed_add(a, b),
+            op::SR | op::S | op::SH => signed_subtract(a, b),
             op::ALR | op::AL => carry_result(u64::from(a) + u64::from(b)),
             op::SLR | op::SL => carry_result(u64::from(a) + u64::from(!b) + 1),
             op::NR | op::N => bits_result(a & b),
@@ -103,7 +111,7 @@ impl Machine {
     fn compare(&mut self, work: &Work) {
         let (a, b) = (work.old[work.parts.r1], self.second_word(work));
         self.code = match work.parts.code {
-            op::CR | op::C => compare_code(signed(a), signed(b)),
+            op::CR | op::C | op::CH => compare_code(signed(a), signed(b)),
             _ => compare_code(i64::from(a), i64::from(b)),
         };
     }
@@ -195,10 +203,14 @@ impl Machine {
         }
     }
 
-    /// The second operand of an RR or RX instruction on words.
-    fn second_word(&self, work: &Work) -> u32 {
-        if op::length(work.parts.code) == 2 {
+    /// The second operand of an RR or RX instruction on words; a halfword in
+    /// memory becomes a word first.
+    pub(crate) fn second_word(&self, work: &Work) -> u32 {
+        let code = work.parts.code;
+        if op::length(code) == 2 {
             work.old[work.parts.r2]
+        } else if op::boundary(code) == 2 {
+            widened(self.number_at(&work.places[0]))
         } else {
             self.number_at(&work.places[0])
         }

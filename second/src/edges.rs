@@ -1,5 +1,6 @@
 //! Calls at the edges: every limit of the door from both sides, the end of
-//! memory at each size, and stores that are refused half way.
+//! memory at each size, stores that are refused half way, and divisions and
+//! other work on register pairs that is refused at its end.
 
 use crate::draft::{rr, rs, rx, si, ss};
 use crate::machine::{Machine, E, H, M, S, U};
@@ -36,7 +37,10 @@ pub fn cases() -> Vec<Case> {
             cases.push(Case::run(machine.clone(), budget));
         }
     }
-    let refused = memory_ends().into_iter().chain(stopped_half_way());
+    let refused = memory_ends()
+        .into_iter()
+        .chain(stopped_half_way())
+        .chain(pairs_refused());
     for machine in refused {
         cases.push(Case::step(machine.clone()));
         cases.push(Case::run(machine, 3));
@@ -82,6 +86,16 @@ fn at_the_door() -> Vec<Machine> {
         let mut machine = small(8_192);
         machine.registers.resize(count, 7);
         machines.push(machine);
+        // The last pair of all, which a short list has not or only half.
+        for program in [
+            rr(op::MR, 14, 14),
+            rs(op::SLDA, 14, 0, 0, 1),
+            rr(op::DR, 15, 0),
+        ] {
+            let mut machine = with_program(8_192, &program);
+            machine.registers.resize(count, 7);
+            machines.push(machine);
+        }
     }
     for counter in COUNTERS {
         machines.push(small_in(counter, 1, 2));
@@ -152,6 +166,42 @@ fn stopped_half_way() -> Vec<Machine> {
                 for third in [OPEN, OPEN | E, S] {
                     machines.push(fields(&program, [first, second, third]));
                 }
+            }
+        }
+    }
+    machines
+}
+
+/// Pairs and their operand at the end of page 20, which is as it should be or
+/// not: an odd register, a divisor that is zero or too small, and beside them
+/// what completes.
+fn pairs_refused() -> Vec<Machine> {
+    let words = [OPEN, OPEN | E, OPEN | M, S, U, OPEN | 0x40, OPEN | 0x3F];
+    let programs = [
+        rx(op::M, 6, 0, 3, 0xFFC),
+        rx(op::M, 7, 0, 3, 0xFFC),
+        rx(op::M, 7, 0, 3, 0xFFD),
+        rx(op::M, 6, 0, 3, 0xFFE),
+        rx(op::D, 6, 0, 3, 0xFFC),
+        rx(op::D, 7, 0, 3, 0xFFE),
+        rx(op::D, 8, 0, 3, 0xFFC),
+        rx(op::MH, 7, 0, 3, 0xFFE),
+        rx(op::AH, 7, 0, 3, 0xFFF),
+        rr(op::DR, 6, 9),
+        rr(op::DR, 8, 6),
+        rr(op::MR, 15, 15),
+        rs(op::SLDA, 7, 0, 0, 1),
+        rs(op::SRDA, 14, 0, 3, 0x01F),
+    ];
+    let mut machines = Vec::new();
+    for program in programs {
+        for word in words {
+            for divisor in [0, 1, 0x1000, 0xFFFF_FFFF] {
+                let mut machine = fields(&program, [word, OPEN, OPEN]);
+                machine.memory[2 * 4_096 - 4..2 * 4_096]
+                    .copy_from_slice(&u32::to_be_bytes(divisor));
+                machine.registers[6..10].copy_from_slice(&[1, 0x8000_0005, 0x8000_0000, divisor]);
+                machines.push(machine);
             }
         }
     }

@@ -1,5 +1,5 @@
-//! A second program for the bench sheets of the 70/46 base set, written from
-//! the documents alone so that it can be compared with the engine.
+//! A second program for the bench sheets of the 70/46, written from the
+//! documents alone so that it can be compared with the engine.
 //!
 //! `answer` goes from the bytes of a sheet to the bytes of its answer. The
 //! machine can also be used by itself, with other memory sizes and one step
@@ -16,6 +16,7 @@ pub mod loose;
 pub mod machine;
 pub mod many;
 pub mod operations;
+mod pairs;
 pub mod print;
 pub mod probe;
 pub mod programs;
@@ -25,6 +26,7 @@ pub mod seen;
 pub mod sheet;
 pub mod stretches;
 pub mod sweeps;
+mod wide;
 
 use machine::Machine;
 use sheet::Sheet;

@@ -84,7 +84,7 @@ fn line(code: &[u8], start: u32, place: usize) -> Line<'_> {
     }
 }
 
-/// The operation of the instruction that stands here, if the base set has it
+/// The operation of the instruction that stands here, if the set has it
 /// and the code does not end within it.
 fn instruction(left: &[u8]) -> Option<Operation> {
     let row = find(left[0])?;

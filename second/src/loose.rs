@@ -97,7 +97,7 @@ mod tests {
     #[test]
     fn all_numbers_come_up() {
         let mut loose = Loose::new(1);
-        let mut numbers = [0u32; 8];
+        let mut numbers = [0u32; 9];
         let mut sizes = std::collections::BTreeSet::new();
         for _ in 0..4_000 {
             let (mut machine, budget) = loose.make();
@@ -109,7 +109,7 @@ mod tests {
                 assert_eq!(machine, before);
             }
         }
-        for number in [1, 2, 3, 4, 5, 6, 7] {
+        for number in [1, 2, 3, 4, 5, 6, 7, 8] {
             assert!(numbers[number] >= 50, "{number}: {}", numbers[number]);
         }
         assert_eq!(numbers[0], 0);

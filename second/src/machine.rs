@@ -14,6 +14,7 @@ pub const PAGING_ERROR: u32 = 4;
 pub const OPERATION: u32 = 5;
 pub const DOOR: u32 = 6;
 pub const BUDGET_SPENT: u32 = 7;
+pub const DIVIDE: u32 = 8;
 
 pub const W: u16 = 0x8000;
 pub const G: u16 = 0x4000;
@@ -218,7 +219,9 @@ impl Machine {
         let mut read_pages: Vec<usize> = Vec::with_capacity(8);
         let mut stored_pages: Vec<usize> = Vec::new();
         let parts = self.fetch(seen, &mut read_pages)?;
+        self.test_pair(&parts)?;
         let places = self.find_operands(&parts, &mut read_pages, &mut stored_pages)?;
+        self.test_quotient(&parts, &places)?;
 
         // From here on nothing is refused.
         self.execute(&parts, &places);
@@ -233,18 +236,14 @@ impl Machine {
 
     /// The instruction: first halfword, operation, the other halfwords.
     fn fetch(&self, seen: &mut Option<u8>, pages: &mut Vec<usize>) -> Result<Parts, Refusal> {
-        let refuse = |number| Refusal {
-            number,
-            place: self.counter,
-        };
         if self.counter % 2 != 0 {
-            return Err(refuse(SPECIFICATION));
+            return Err(self.refused_here(SPECIFICATION));
         }
         let mut text: Vec<u8> = Vec::with_capacity(6);
         self.fetch_halfword(0, &mut text, pages)?;
         let code = text[0];
         *seen = Some(code);
-        let operation = op::find(code).ok_or(refuse(OPERATION))?;
+        let operation = op::find(code).ok_or(self.refused_here(OPERATION))?;
         let length = op::length(code);
         let mut offset = 2;
         while offset < length {
@@ -252,6 +251,32 @@ impl Machine {
             offset += 2;
         }
         Ok(self.take_apart(operation.form, &text, length))
+    }
+
+    /// A refusal whose place is the program counter.
+    fn refused_here(&self, number: u32) -> Refusal {
+        Refusal {
+            number,
+            place: self.counter,
+        }
+    }
+
+    /// A pair of registers is named by its even one.
+    fn test_pair(&self, parts: &Parts) -> Result<(), Refusal> {
+        if op::needs_pair(parts.code) && parts.r1 % 2 != 0 {
+            return Err(self.refused_here(SPECIFICATION));
+        }
+        Ok(())
+    }
+
+    /// A division must have a quotient that the odd register can hold. This is
+    /// the one test that needs the operands themselves.
+    fn test_quotient(&self, parts: &Parts, places: &[Vec<usize>]) -> Result<(), Refusal> {
+        let divides = matches!(parts.code, op::DR | op::D);
+        if divides && self.division(parts, places).is_none() {
+            return Err(self.refused_here(DIVIDE));
+        }
+        Ok(())
     }
 
     /// The operands: boundaries first, then each byte of each field. Tells

@@ -2,7 +2,7 @@
 //! bytes that mostly do not, and a few long runs.
 
 use crate::draft::{rr, rs, rx, si, ss, Draft};
-use crate::operations::{self as op, Form, OPERATIONS};
+use crate::operations::{self as op, Form, Operation, OPERATIONS};
 use crate::scene::{fault_word, open_word, Scene, FAULTS};
 use common::dice::Dice;
 
@@ -11,6 +11,8 @@ struct Shared {
     base: u8,
     index: u8,
     usable: Vec<u8>,
+    /// The even registers whose pairs are usable.
+    pairs: Vec<u8>,
 }
 
 /// A program of several instructions on shared pointers, its stores folded
@@ -41,6 +43,7 @@ pub fn program(dice: &mut Dice) -> Draft {
     let shared = Shared {
         base,
         index,
+        pairs: pairs(&usable),
         usable,
     };
     for _ in 0..2 + dice.below(8) {
@@ -51,6 +54,12 @@ pub fn program(dice: &mut Dice) -> Draft {
         return folded(scene, dice, &kept, hot & !3);
     }
     scene.finish(dice)
+}
+
+/// The even ones among registers that have the odd one after them there too.
+fn pairs(usable: &[u8]) -> Vec<u8> {
+    let is_pair = |even: &u8| even % 2 == 0 && usable.contains(&(even + 1));
+    usable.iter().copied().filter(is_pair).collect()
 }
 
 /// A place in the data pages with something in it.
@@ -83,9 +92,13 @@ fn folded(mut scene: Scene, dice: &mut Dice, kept: &[u8], start: u32) -> Draft {
 
 /// Any instruction, such that the program most often goes on.
 fn instruction(scene: &mut Scene, dice: &mut Dice, shared: &Shared) -> Vec<u8> {
-    let row = dice.pick(&OPERATIONS);
+    let row = operation(dice, shared);
     let any = dice.chance(1, 40);
-    let r1 = register(dice, &shared.usable, any);
+    let r1 = if op::needs_pair(row.code) && !any {
+        dice.pick(&shared.pairs)
+    } else {
+        register(dice, &shared.usable, any)
+    };
     let r2 = register(dice, &shared.usable, any);
     let boundary = op::boundary(row.code).max(1);
     let mut reach = 64 + boundary * dice.below(48 / boundary);
@@ -94,6 +107,9 @@ fn instruction(scene: &mut Scene, dice: &mut Dice, shared: &Shared) -> Vec<u8> {
     }
     let other = 64 + dice.below(48);
     let base = shared.base;
+    if matches!(row.code, op::DR | op::D) && dice.chance(7, 8) {
+        prepare_division(scene, dice, base, (row.code, r1, r2), reach);
+    }
     match row.form {
         Form::RR => match row.code {
             // Only what falls through or goes on right here.
@@ -108,6 +124,38 @@ fn instruction(scene: &mut Scene, dice: &mut Dice, shared: &Shared) -> Vec<u8> {
             let length = dice.pick(&[0, 1, 3, 7, 12]);
             ss(row.code, length, base, reach, base, other)
         }
+    }
+}
+
+/// Any operation for whose first register there is one.
+fn operation(dice: &mut Dice, shared: &Shared) -> Operation {
+    loop {
+        let row = dice.pick(&OPERATIONS);
+        if !op::needs_pair(row.code) || !shared.pairs.is_empty() {
+            return row;
+        }
+    }
+}
+
+/// Adds what makes the dividend one word long and the divisor not zero, so that
+/// the quotient most often fits.
+fn prepare_division(
+    scene: &mut Scene,
+    dice: &mut Dice,
+    base: u8,
+    (code, r1, r2): (u8, u8, u8),
+    reach: u32,
+) {
+    scene.add(rs(op::SRDA, r1 & !1, 0, 0, 32));
+    if code == op::D {
+        let bit = 1 << dice.below(8);
+        scene.add(si(op::OI, bit, base, reach + dice.below(4)));
+        return;
+    }
+    let more = 1 + dice.below(4_095);
+    scene.add(rx(op::LA, r2, 0, r2, more));
+    if dice.chance(1, 2) {
+        scene.add(rr(op::LNR, r2, r2));
     }
 }
 
@@ -145,7 +193,7 @@ fn any_rs(
     reach: u32,
 ) -> Vec<u8> {
     match code {
-        op::SLL | op::SRL => {
+        _ if op::shifts(code) => {
             let b = dice.pick(&[0, 0, r2]);
             rs(code, r1, r2, b, dice.below(80))
         }

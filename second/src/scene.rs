@@ -93,6 +93,14 @@ impl Scene {
         self.free.retain(|&other| other != number);
     }
 
+    /// Any even register and the odd one after it, 0 and 1 as well.
+    pub fn any_pair(&mut self, dice: &mut Dice) -> u8 {
+        let even = 2 * dice.below(8) as u8;
+        self.reserve(even);
+        self.reserve(even + 1);
+        even
+    }
+
     /// An even register and the odd one after it, both free.
     pub fn take_pair(&mut self) -> u8 {
         for even in [2, 4, 6, 8, 10, 12, 14] {
@@ -250,6 +258,10 @@ impl Scene {
     pub fn good(&mut self, dice: &mut Dice, code: u8) -> Vec<u8> {
         let displacement = self.data_displacement(dice, code);
         let target = self.data_at(displacement);
+        if code == op::D {
+            // Memory is zero elsewhere, and no divisor.
+            self.put_word(target, dice.edge_word() | 1);
+        }
         self.aimed(dice, code, target)
     }
 
@@ -289,7 +301,7 @@ impl Scene {
 
     fn aimed_rr(&mut self, dice: &mut Dice, code: u8) -> Vec<u8> {
         if !matches!(code, op::BCR | op::BALR | op::BCTR) {
-            let r1 = self.valued(dice);
+            let r1 = self.first_register(dice, code);
             let r2 = if dice.chance(1, 8) {
                 r1
             } else {
@@ -330,20 +342,21 @@ impl Scene {
             return rx(code, r1, x, b, d);
         }
         let (x, b, d) = self.indexed(dice, target);
-        let r1 = if b != 0 && dice.chance(1, 12) {
-            b
-        } else {
-            self.valued(dice)
+        let r1 = match dice.chance(1, 12) {
+            // The base among the registers that the operation changes.
+            true if b != 0 && op::needs_pair(code) => b & !1,
+            true if b != 0 => b,
+            _ => self.first_register(dice, code),
         };
         rx(code, r1, x, b, d)
     }
 
     fn aimed_rs(&mut self, dice: &mut Dice, code: u8, target: u32) -> Vec<u8> {
         match code {
-            op::SLL | op::SRL => {
+            _ if op::shifts(code) => {
                 let amount = dice.pick(&[0, 1, 8, 31, 32, 63, 64, 100]);
                 let (b, d) = self.based(dice, amount);
-                let r1 = self.valued(dice);
+                let r1 = self.first_register(dice, code);
                 rs(code, r1, dice.below(16) as u8, b, d)
             }
             op::BXH | op::BXLE => {
@@ -370,15 +383,35 @@ impl Scene {
         }
         let number = self.take();
         let value = dice.edge_word();
-        if !self
-            .draft
-            .registers
-            .iter()
-            .any(|&(other, _)| other == number)
-        {
+        self.register_if_new(number, value);
+        number
+    }
+
+    /// Gives a register its value, unless it has one.
+    fn register_if_new(&mut self, number: u8, value: u32) {
+        let registers = &self.draft.registers;
+        if !registers.iter().any(|&(other, _)| other == number) {
             self.draft.register(number, value);
         }
-        number
+    }
+
+    /// A register with some value in it, as this operation needs one: where
+    /// that is a pair, most often with a number that a word could hold, so
+    /// that most quotients fit.
+    pub fn first_register(&mut self, dice: &mut Dice, code: u8) -> u8 {
+        if !op::needs_pair(code) {
+            return self.valued(dice);
+        }
+        let even = self.take_pair();
+        let odd_word = dice.edge_word();
+        let even_word = match dice.below(4) {
+            0 => dice.edge_word(),
+            _ if odd_word >= 0x8000_0000 => 0xFFFF_FFFF,
+            _ => 0,
+        };
+        self.register_if_new(even, even_word);
+        self.register_if_new(even + 1, odd_word);
+        even + u8::from(dice.chance(1, 20))
     }
 
     /// Ends the sheet: puts the code in its place and chooses the budget,

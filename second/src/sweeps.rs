@@ -4,11 +4,14 @@
 mod branches;
 mod fields;
 mod pages;
+mod pair_refusals;
 mod runs;
+mod signed_shifts;
 mod values;
+mod wide;
 
 use crate::draft::{rr, Draft};
-use crate::operations as op;
+use crate::operations::{self as op, Operation, OPERATIONS};
 use crate::scene::{Scene, FAULTS};
 use common::dice::Dice;
 
@@ -22,7 +25,7 @@ const fn sweep(name: &'static str, cases: u32, make: fn(u32, &mut Dice) -> Draft
     Sweep { name, cases, make }
 }
 
-pub const SWEEPS: [Sweep; 32] = [
+pub const SWEEPS: [Sweep; 41] = [
     sweep("register-values", 14 * 64, values::register_values),
     sweep("word-values", 10 * 64, values::word_values),
     sweep("halfword-loads", 24, values::halfword_loads),
@@ -37,24 +40,41 @@ pub const SWEEPS: [Sweep; 32] = [
     sweep("index-registers", 512, branches::index_registers),
     sweep("index-values", 2 * 64, branches::index_values),
     sweep("targets", 8 * 12 * 2, branches::targets),
-    sweep("operand-words", 25 * FAULTS * 2, pages::operand_words),
-    sweep("boundaries", 15 * 3 * 4, pages::boundaries),
-    sweep("address-ends", 25 * 12, pages::address_ends),
+    sweep("products", 5 * 64, wide::products),
+    sweep("halfwords", 4 * 14 * 8, wide::halfwords),
+    sweep("quotients", 2 * 9 * 8 * 3, wide::quotients),
+    sweep("dividends", 2 * 14 * 8, wide::dividends),
+    sweep("divisors-in-the-pair", 2 * 64, wide::divisors_in_the_pair),
+    sweep(
+        "signed-shifts",
+        2 * 13 * (9 + 12) * 2,
+        signed_shifts::signed_shifts,
+    ),
+    sweep("odd-pairs", 6 * 8 * 6, pair_refusals::odd_pairs),
+    sweep(
+        "divisors-in-bad-pages",
+        2 * FAULTS * 3,
+        pair_refusals::divisors_in_bad_pages,
+    ),
+    sweep("divide-errors", 2 * 2 * 16, pair_refusals::divide_errors),
+    sweep("operand-words", MEMORY * FAULTS * 2, pages::operand_words),
+    sweep("boundaries", BOUND * 3 * 4, pages::boundaries),
+    sweep("address-ends", MEMORY * 12, pages::address_ends),
     sweep("two-fields", 2 * 3 * FAULTS * 2, fields::two_fields),
     sweep(
         "multiple-straddle",
         2 * FAULTS * 3,
         fields::multiple_straddle,
     ),
-    sweep("fetches", 50 * 10, pages::fetches),
-    sweep("fetch-rests", 33 * FAULTS, pages::fetch_rests),
+    sweep("fetches", OPERATIONS.len() as u32 * 10, pages::fetches),
+    sweep("fetch-rests", LONGER * FAULTS, pages::fetch_rests),
     sweep("multiple-registers", 512, fields::multiple_registers),
     sweep("moves", 2 * 8 * 11 * 3, fields::moves),
     sweep("word-flags", 128 * 3 * 2, pages::word_flags),
     sweep("page-numbers", 1_024, pages::page_numbers),
     sweep("frames", 64 * 3, pages::frames),
     sweep("address-sums", 160, values::address_sums),
-    sweep("sums-past-the-end", 33 * 5, values::sums_past_the_end),
+    sweep("sums-past-the-end", LONGER * 5, values::sums_past_the_end),
     sweep("operation-bytes", 512, runs::operation_bytes),
     sweep("budgets", 7 * 6 * 3, runs::budgets),
     sweep("own-code", 12 * 8, runs::own_code),
@@ -93,7 +113,13 @@ const WORD_OPS: [u8; 10] = [
 
 const BYTE_OPS: [u8; 6] = [op::CLI, op::NI, op::OI, op::XI, op::TM, op::MVI];
 
-const MEMORY_OPS: [u8; 25] = [
+/// How many operations have an operand in memory.
+const MEMORY: u32 = MEMORY_OPS.len() as u32;
+
+/// Those with a boundary stand first, and are so many.
+const BOUND: u32 = 21;
+
+const MEMORY_OPS: [u8; 31] = [
     op::L,
     op::A,
     op::S,
@@ -109,6 +135,12 @@ const MEMORY_OPS: [u8; 25] = [
     op::STM,
     op::LH,
     op::STH,
+    op::AH,
+    op::SH,
+    op::CH,
+    op::MH,
+    op::M,
+    op::D,
     op::IC,
     op::STC,
     op::CLI,
@@ -120,6 +152,15 @@ const MEMORY_OPS: [u8; 25] = [
     op::MVC,
     op::CLC,
 ];
+
+/// The table has the instructions of two bytes first; so many are longer.
+const LONGER: u32 = 43;
+
+/// An instruction of four or six bytes by its number among them.
+fn longer(number: u32) -> Operation {
+    let two_bytes = OPERATIONS.len() as u32 - LONGER;
+    OPERATIONS[(two_bytes + number) as usize]
+}
 
 const BRANCHES: [u8; 8] = [
     op::BCR,
@@ -137,5 +178,24 @@ fn keep_code(scene: &mut Scene, dice: &mut Dice) {
     if dice.chance(1, 2) {
         let link = scene.take();
         scene.add(rr(op::BALR, link, 0));
+    }
+}
+
+#[cfg(test)]
+mod tests {
+    use super::*;
+
+    #[test]
+    fn the_lists_leave_no_operation_out() {
+        for operation in OPERATIONS {
+            let code = operation.code;
+            let boundary = op::boundary(code);
+            assert_eq!(MEMORY_OPS.contains(&code), boundary > 0);
+            let (bound, _) = MEMORY_OPS.split_at(BOUND as usize);
+            assert_eq!(bound.contains(&code), boundary > 1);
+        }
+        let longer = OPERATIONS.iter().filter(|row| op::length(row.code) > 2);
+        assert_eq!(longer.count(), LONGER as usize);
+        assert!(op::length(super::longer(0).code) > 2);
     }
 }

@@ -3,10 +3,12 @@
 use std::fs;
 use std::path::Path;
 
-const OWN: [&str; 7] = [
+const OWN: [&str; 9] = [
     "machine",
     "actions",
+    "pairs",
     "results",
+    "wide",
     "operations",
     "sheet",
     "print",

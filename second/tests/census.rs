@@ -5,15 +5,19 @@ use second::generate::Generator;
 use second::operations::{self as op, Form, Operation, OPERATIONS};
 use second::sheet;
 
+/// How many sheets of a seed the two programs are given.
+const SHEETS: u64 = 25_000;
+
 #[test]
-fn twenty_thousand_sheets_reach_everything() {
+fn the_sheets_of_a_seed_reach_everything() {
     for seed in [1, 2] {
-        let census = census::take(seed, 20_000);
-        assert_eq!(census.sheets, 20_000);
+        let census = census::take(seed, SHEETS);
+        assert_eq!(census.sheets, SHEETS);
         assert!(census.bad >= 1_000, "BAD {}", census.bad);
-        for number in [1, 2, 3, 4, 5, 7] {
+        for number in [1, 2, 3, 4, 5, 7, 8] {
             let stops = census.stops[number];
-            assert!(stops >= 500, "STOP {number}: {stops}");
+            let least = if number == 8 { 400 } else { 500 };
+            assert!(stops >= least, "STOP {number}: {stops}");
         }
         assert_eq!(census.stops[0], 0);
         assert_eq!(census.stops[6], 0);
@@ -40,21 +44,44 @@ fn reaches(census: &Census, operation: Operation) {
     // In so many sheets, not only so many times in one loop.
     let sheets = row.sheets;
     assert!(sheets >= 200, "{name} completed in {sheets} sheets");
-    let (others, twos) = match operation.form {
-        Form::RR => (0, 0),
-        _ if op::boundary(operation.code) > 1 => (10, 15),
-        _ if op::boundary(operation.code) == 1 => (10, 0),
-        _ => (3, 0),
+    let others = match operation.form {
+        Form::RR => 0,
+        _ if op::has_memory_operand(operation.code) => 10,
+        _ => 3,
     };
     for number in [1, 3, 4] {
         let refused = row.refused[number];
         assert!(refused >= others, "{name} refused with {number}: {refused}");
         assert!(others > 0 || refused == 0);
     }
-    let refused = row.refused[2];
-    assert!(refused >= twos, "{name} refused with 2: {refused}");
-    assert!(twos > 0 || refused == 0);
-    assert_eq!(row.refused[5], 0);
+    let divides = matches!(operation.code, op::DR | op::D);
+    let twos = match op::needs_pair(operation.code) {
+        true => 40,
+        false if op::boundary(operation.code) > 1 => 15,
+        false => 0,
+    };
+    for (number, least) in [(2, twos), (5, 0), (8, if divides { 150 } else { 0 })] {
+        let refused = row.refused[number];
+        assert!(refused >= least, "{name} refused with {number}: {refused}");
+        assert!(least > 0 || refused == 0);
+    }
+}
+
+#[test]
+fn multiply_divide_and_signed_shifts_are_met_often() {
+    let names = [
+        "MR", "M", "MH", "DR", "D", "AH", "SH", "CH", "SLA", "SRA", "SLDA", "SRDA",
+    ];
+    for seed in [1, 2] {
+        let census = census::take(seed, SHEETS);
+        let chosen = OPERATIONS.iter().filter(|row| names.contains(&row.name));
+        assert_eq!(chosen.clone().count(), names.len());
+        for operation in chosen {
+            let row = &census.rows[usize::from(operation.code)];
+            let met = row.sheets + row.refused.iter().sum::<u64>();
+            assert!(met >= 500, "{} in {met} sheets", operation.name);
+        }
+    }
 }
 
 #[test]
@@ -91,7 +118,8 @@ fn most_sheets_are_small_and_good_ones_are_plenty() {
     assert!(good > 3_500, "{good} good");
 }
 
+/// Six sheets of ten are cases of the sweeps.
 #[test]
-fn twenty_thousand_sheets_take_in_every_case_of_the_sweeps() {
-    assert!(Generator::new(0).sweep_cases() <= 12_000);
+fn the_sheets_of_a_seed_take_in_every_case_of_the_sweeps() {
+    assert!(Generator::new(0).sweep_cases() <= SHEETS * 6 / 10);
 }

@@ -75,6 +75,36 @@ fn registers_and_storage() {
 }
 
 #[test]
+fn multiply_divide_and_signed_shifts() {
+    gives("1C24", 0, "000000 MR 2,4\n");
+    // An odd first register is the machine's to refuse, not the listing's.
+    gives("1D31", 0, "000000 DR 3,1\n");
+    gives(
+        "49123456 4A123456 4B123456 4C123456",
+        0,
+        "000000 CH 1,1110(2,3)\n000004 AH 1,1110(2,3)\n000008 SH 1,1110(2,3)\n00000C MH 1,1110(2,3)\n",
+    );
+    gives(
+        "5C20F004 5DE0B010",
+        0,
+        "000000 M 2,4(0,15)\n000004 D 14,16(0,11)\n",
+    );
+    gives(
+        "8A10001F 8B1F203F",
+        0,
+        "000000 SRA 1,0,31(0)\n000004 SLA 1,15,63(2)\n",
+    );
+    gives(
+        "8E200020 8F20F001",
+        0,
+        "000000 SRDA 2,0,32(0)\n000004 SLDA 2,0,1(15)\n",
+    );
+    // The logical double shifts between them are not in the set.
+    gives("8C20", 0, "000000 DC X'8C20'\n");
+    gives("8D20", 0, "000000 DC X'8D20'\n");
+}
+
+#[test]
 fn storage_and_a_byte() {
     gives("92000000", 0, "000000 MVI 0(0),X'00'\n");
     gives("91FFFFFF", 0, "000000 TM 4095(15),X'FF'\n");
@@ -91,9 +121,9 @@ fn storage_and_storage() {
 #[test]
 fn what_is_not_in_the_set() {
     gives("0A05", 0, "000000 DC X'0A05'\n");
-    // MR, M and EX are the manual's, not the set's; two bytes later the walk goes on.
-    gives("1C24", 0, "000000 DC X'1C24'\n");
-    gives("5C2018AB", 0, "000000 DC X'5C20'\n000002 LR 10,11\n");
+    // SPM, CVB and EX are the manual's, not the set's; two bytes later the walk goes on.
+    gives("0420", 0, "000000 DC X'0420'\n");
+    gives("4F2018AB", 0, "000000 DC X'4F20'\n000002 LR 10,11\n");
     gives("44000700", 0, "000000 DC X'4400'\n000002 BCR 0,0\n");
     gives(
         "FC0012345678",

@@ -291,6 +291,80 @@ fn a_refused_multiple_store_or_load_alters_nothing() {
 }
 
 #[test]
+fn a_refused_division_alters_nothing() {
+    // D 4,0(0,2) by zero and by one; DR 4,6 the same; D and DR with an odd register.
+    for (code, number) in [
+        (&[0x5D, 0x40, 0x20, 0x00][..], 8),
+        (&[0x5D, 0x40, 0x20, 0x04], 8),
+        (&[0x1D, 0x46], 8),
+        (&[0x1D, 0x47], 8),
+        (&[0x5D, 0x50, 0x20, 0x00], 2),
+        (&[0x1D, 0x56], 2),
+    ] {
+        let mut machine = with_code(65_536, code);
+        machine.map[20] = 0x3004;
+        machine.memory[4 * 4_096 + 7] = 1;
+        machine.code = 2;
+        machine.registers[2] = 0x01_4000;
+        machine.registers[4] = 0x8000_0000;
+        machine.registers[7] = 1;
+        let before = machine.clone();
+        let place = 0x00_A000;
+        assert_eq!(machine.step(), Step { number, place });
+        let count = 0;
+        let ran = machine.run(9);
+        assert_eq!(
+            ran,
+            Run {
+                number,
+                place,
+                count
+            }
+        );
+        assert_eq!(machine, before);
+    }
+}
+
+/// A list of registers too short for the last pair never gets as far as the pair.
+#[test]
+fn pairs_in_lists_of_a_wrong_length_are_refused_at_the_door() {
+    for code in [
+        &[0x1C, 0xEE][..],
+        &[0x1D, 0xEE],
+        &[0x8F, 0xE0, 0x00, 0x01],
+        &[0x8E, 0xF0, 0x00, 0x01],
+    ] {
+        for count in [0, 1, 14, 15, 17] {
+            let mut machine = with_code(65_536, code);
+            machine.registers.resize(count, 7);
+            let before = machine.clone();
+            assert_eq!(machine.step(), REFUSED_AT_THE_DOOR);
+            assert_eq!(machine.run(1).number, 6);
+            assert_eq!(machine, before);
+        }
+    }
+}
+
+#[test]
+fn the_last_pair_is_14_and_15() {
+    // MR 14,14; SRDA 14,4; DR 14,13
+    let code = [0x1C, 0xEE, 0x8E, 0xE0, 0x00, 0x04, 0x1D, 0xED];
+    let mut machine = with_code(65_536, &code);
+    machine.registers[13] = 100;
+    machine.registers[14] = 0xFFFF_FFF0;
+    machine.registers[15] = 1_000;
+    // -16 times 1000 is -16000; by 16 this is -1000 again; by 100 it is -10.
+    assert_eq!(machine.step().number, 0);
+    assert_eq!(machine.registers[14..], [0xFFFF_FFFF, 0xFFFF_C180]);
+    assert_eq!(machine.step().number, 0);
+    assert_eq!(machine.registers[14..], [0xFFFF_FFFF, 0xFFFF_FC18]);
+    assert_eq!(machine.code, 1);
+    assert_eq!(machine.step().number, 0);
+    assert_eq!(machine.registers[14..], [0, 0xFFFF_FFF6]);
+    assert_eq!(machine.code, 1);
+}
+
+#[test]
 fn an_overlapping_move_goes_byte_by_byte() {
     let mut machine = with_code(65_536, &[0xD2, 0x03, 0x20, 0x01, 0x20, 0x00]);
     machine.map[20] = 0x3004;

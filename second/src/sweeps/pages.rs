@@ -1,6 +1,6 @@
 //! Sweeps over page words, addresses and fetches.
 
-use super::{keep_code, MEMORY_OPS};
+use super::{keep_code, longer, BOUND, LONGER, MEMORY, MEMORY_OPS};
 use crate::draft::{rr, rx, si, ss, Draft};
 use crate::machine::{H, M};
 use crate::operations::{self as op, OPERATIONS};
@@ -9,12 +9,12 @@ use common::dice::Dice;
 
 /// Each operation with a memory operand against each kind of page word.
 pub fn operand_words(case: u32, dice: &mut Dice) -> Draft {
-    let code = MEMORY_OPS[(case % 25) as usize];
-    let fault = case / 25 % FAULTS;
+    let code = MEMORY_OPS[(case % MEMORY) as usize];
+    let fault = case / MEMORY % FAULTS;
     let mut scene = Scene::new(dice);
     let word = fault_word(dice, fault, scene.data_frames[0]);
     scene.draft.page(scene.data_page, word);
-    let displacement = if case / (25 * FAULTS) == 0 {
+    let displacement = if case / (MEMORY * FAULTS) == 0 {
         dice.pick(&[0, 8, 1_024, 2_040])
     } else {
         dice.pick(&[2_048, 2_056, 3_000, 4_088])
@@ -29,12 +29,12 @@ pub fn operand_words(case: u32, dice: &mut Dice) -> Draft {
 
 /// Operands off their boundary, in pages of several kinds.
 pub fn boundaries(case: u32, dice: &mut Dice) -> Draft {
-    let code = MEMORY_OPS[(case % 15) as usize];
-    let off = case / 15 % 3 + 1;
+    let code = MEMORY_OPS[(case % BOUND) as usize];
+    let off = case / BOUND % 3 + 1;
     let mut scene = Scene::new(dice);
     let displacement = dice.pick(&[0, 4, 2_044, 4_092]);
     let mut target = scene.data_at(displacement + off);
-    match case / 45 {
+    match case / (BOUND * 3) {
         0 => {}
         1 => {
             let fault = dice.below(FAULTS);
@@ -57,10 +57,10 @@ pub fn boundaries(case: u32, dice: &mut Dice) -> Draft {
 
 /// Operands at the ends of virtual memory.
 pub fn address_ends(case: u32, dice: &mut Dice) -> Draft {
-    let code = MEMORY_OPS[(case % 25) as usize];
+    let code = MEMORY_OPS[(case % MEMORY) as usize];
     let boundary = op::boundary(code);
     let mut scene = Scene::new(dice);
-    let target = match case / 25 {
+    let target = match case / MEMORY {
         0 => 0x20_0000 - boundary,
         1 => 0x20_0000,
         2 => 0x1F_FFFF,
@@ -258,9 +258,10 @@ pub fn frames(case: u32, dice: &mut Dice) -> Draft {
 
 /// Each operation where its own fetch is in danger.
 pub fn fetches(case: u32, dice: &mut Dice) -> Draft {
-    let row = OPERATIONS[(case % 50) as usize];
+    let all = OPERATIONS.len() as u32;
+    let row = OPERATIONS[(case % all) as usize];
     let mut scene = Scene::new(dice);
-    put_in_danger(&mut scene, dice, case / 50, op::length(row.code));
+    put_in_danger(&mut scene, dice, case / all, op::length(row.code));
     let instruction = scene.good(dice, row.code);
     scene.add(instruction);
     scene.finish(dice)
@@ -324,8 +325,8 @@ fn put_in_danger(scene: &mut Scene, dice: &mut Dice, kind: u32, length: u32) {
 /// Each instruction of four or six bytes over the end of a page, against
 /// each kind of word for the page after.
 pub fn fetch_rests(case: u32, dice: &mut Dice) -> Draft {
-    let code = OPERATIONS[(17 + case % 33) as usize].code;
-    let fault = case / 33;
+    let code = longer(case % LONGER).code;
+    let fault = case / LONGER;
     let mut scene = Scene::new(dice);
     let word = fault_word(dice, fault, scene.code_frames[1]);
     scene.draft.page(scene.code_page + 1, word);

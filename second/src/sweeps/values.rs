@@ -1,8 +1,8 @@
 //! Sweeps over values: registers, words, bytes, shifts and address sums.
 
-use super::{keep_code, BYTE_OPS, REGISTER_OPS, WORD_OPS};
+use super::{keep_code, longer, BYTE_OPS, LONGER, REGISTER_OPS, WORD_OPS};
 use crate::draft::{rr, rs, rx, si, ss, Draft};
-use crate::operations::{self as op, Form, OPERATIONS};
+use crate::operations::{self as op, Form};
 use crate::scene::{open_word, Scene, OPEN};
 use common::dice::{Dice, EDGE_BYTES, EDGE_WORDS};
 
@@ -228,7 +228,7 @@ fn low_scene(dice: &mut Dice) -> Scene {
 /// Base and displacement whose sum goes past 24 bits and comes out at the
 /// low end, for each instruction that has them.
 pub fn sums_past_the_end(case: u32, dice: &mut Dice) -> Draft {
-    let row = OPERATIONS[(17 + case % 33) as usize];
+    let row = longer(case % LONGER);
     let mut scene = low_scene(dice);
     let target = 4 * dice.below(20);
     let other = dice.below(80);
@@ -240,7 +240,7 @@ pub fn sums_past_the_end(case: u32, dice: &mut Dice) -> Draft {
     };
     let (base, d) = low(&mut scene, target);
     let (other_base, other_d) = low(&mut scene, other);
-    let r1 = scene.valued(dice);
+    let r1 = scene.first_register(dice, row.code);
     let instruction = match row.form {
         Form::SI => si(row.code, dice.edge_byte(), base, d),
         Form::SS => ss(
