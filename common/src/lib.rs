@@ -1,5 +1,5 @@
-//! What the programs around the engine share: dice, the table of instructions, the form of a call for the program `probe`, other
-//! programs within a time limit, Hercules, and how a comparison ends.
+//! What the programs around the engine share: dice, operands at which results turn, the table of instructions, the form of a call for
+//! the program `probe`, other programs within a time limit, Hercules, and how a comparison ends.
 
 pub mod bounded;
 pub mod bytes;
@@ -8,3 +8,4 @@ pub mod hercules;
 pub mod probe;
 pub mod set;
 pub mod status;
+pub mod turns;

@@ -1,4 +1,4 @@
-//! The fifty instructions of the base set, and what kind of case each needs. (The second program has a table of its own.)
+//! The instructions of the set, and what kind of case each needs. (The second program has a table of its own.)
 
 /// What an instruction does with its fields, as far as a case must know.
 #[derive(Clone, Copy, Debug, PartialEq, Eq)]
@@ -31,6 +31,8 @@ pub struct Instruction {
     /// The operation code.
     pub operation: u8,
     pub shape: Shape,
+    /// Whether R1 has to be even: it names a pair of registers, which holds 64 bits.
+    pub pair: bool,
 }
 
 const fn row(name: &'static str, operation: u8, shape: Shape) -> Instruction {
@@ -38,6 +40,14 @@ const fn row(name: &'static str, operation: u8, shape: Shape) -> Instruction {
         name,
         operation,
         shape,
+        pair: false,
+    }
+}
+
+const fn pair(name: &'static str, operation: u8, shape: Shape) -> Instruction {
+    Instruction {
+        pair: true,
+        ..row(name, operation, shape)
     }
 }
 
@@ -54,8 +64,8 @@ const fn store(width: u32) -> Shape {
 const READS: Shape = Shape::Immediate { stores: false };
 const CHANGES: Shape = Shape::Immediate { stores: true };
 
-/// In the order of the scope paper.
-pub const SET: [Instruction; 50] = [
+/// In the order of the scope paper; then multiply, divide and the signed shifts, in that of the change requests.
+pub const SET: [Instruction; 62] = [
     row("LR", 0x18, Shape::Registers),
     row("L", 0x58, load(4)),
     row("LH", 0x48, load(2)),
@@ -106,7 +116,25 @@ pub const SET: [Instruction; 50] = [
     row("BCT", 0x46, Shape::StorageBranch),
     row("BXH", 0x86, Shape::IndexBranch),
     row("BXLE", 0x87, Shape::IndexBranch),
+    pair("MR", 0x1C, Shape::Registers),
+    pair("M", 0x5C, load(4)),
+    row("MH", 0x4C, load(2)),
+    pair("DR", 0x1D, Shape::Registers),
+    pair("D", 0x5D, load(4)),
+    row("AH", 0x4A, load(2)),
+    row("SH", 0x4B, load(2)),
+    row("CH", 0x49, load(2)),
+    row("SLA", 0x8B, Shape::Shift),
+    row("SRA", 0x8A, Shape::Shift),
+    pair("SLDA", 0x8F, Shape::Shift),
+    pair("SRDA", 0x8E, Shape::Shift),
 ];
+
+/// The instruction with this operation code, if its R1 names a pair.
+pub fn of_pair(operation: u8) -> Option<&'static Instruction> {
+    SET.iter()
+        .find(|one| one.pair && one.operation == operation)
+}
 
 /// An instruction's bytes, by the top two bits of its operation code.
 pub fn length(operation: u8) -> usize {

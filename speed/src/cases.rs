@@ -3,7 +3,8 @@
 
 use crate::machine::{Machine, BUDGET, PAGE};
 use common::dice::{Dice, EDGE_WORDS};
-use common::set::{length, SET};
+use common::set::{length, of_pair, Instruction, Shape, SET};
+use common::turns;
 
 pub struct Case {
     pub machine: Machine,
@@ -38,6 +39,9 @@ pub fn case(number: u64) -> Case {
     machine.code = dice.below(4);
     machine.mask = dice.below(16);
     let text = place_code(&mut dice, &mut machine);
+    if let Some(one) = of_pair(text[0]) {
+        turn(&mut dice, one, text, &mut machine.registers);
+    }
     let budget = match dice.below(4) {
         0 => Some(dice.below(12)),
         _ => None,
@@ -51,6 +55,28 @@ pub fn case(number: u64) -> Case {
         spoil(&mut dice, &mut case);
     }
     case
+}
+
+/// Registers at which the first instruction turns, if it has a pair. Without them most divides would be refused.
+fn turn(dice: &mut Dice, one: &Instruction, text: [u8; 6], registers: &mut [u32]) {
+    let (r1, r2) = (usize::from(text[1] >> 4), usize::from(text[1] & 15));
+    let pair = match one.shape {
+        Shape::Registers => {
+            let (dividend, divisor) = turns::division(dice);
+            registers[r2] = divisor;
+            dividend
+        }
+        Shape::Shift => {
+            let amount = u32::from(text[3] & 63);
+            turns::shifted(dice, amount, 64)
+        }
+        // The divisor is whatever lies in storage: a word with its sign spread fits more often than not.
+        _ => i64::from(dice.word() as i32) as u64,
+    };
+    if dice.once_in(2) {
+        registers[r1 & !1] = (pair >> 32) as u32;
+        registers[r1 | 1] = pair as u32;
+    }
 }
 
 /// One thing that number 6 is for.
@@ -171,6 +197,9 @@ fn instruction(dice: &mut Dice) -> [u8; 6] {
         1 if dice.once_in(2) => dice.byte() & 0xF0,
         _ => dice.byte(),
     };
+    if of_pair(text[0]).is_some() && !dice.once_in(4) {
+        text[1] &= 0xEF;
+    }
     let first = based(dice);
     let second = match dice.below(3) {
         0 => first.wrapping_add(dice.below(9) as u16).wrapping_sub(4),

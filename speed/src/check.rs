@@ -78,7 +78,7 @@ fn shown(number: u64, case: &Case) -> String {
 /// somewhere is a check too: without it the others might say little.
 pub fn generated() -> Result<u32, String> {
     let mut completed = [false; 256];
-    let mut answered = [false; 8];
+    let mut answered = [false; 9];
     for number in 0..CASES {
         let case = case(number);
         let (wanted, answer) = done(Engine::Proved, &case);

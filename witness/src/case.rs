@@ -45,9 +45,16 @@ pub enum End {
     At(u32),
     /// Completed with this counter; then it interrupted for overflow, since the mask asks for it.
     Overflow(u32),
-    /// Interrupted with this code.
-    Refused(u16),
+    /// Not done: interrupted with this code, and this is where it began.
+    Refused { interruption: u16, at: u32 },
 }
+
+/// The interruption for an odd address to go on from, and for an odd R1 where a pair is needed.
+pub const SPECIFICATION: u16 = 6;
+/// The interruption for overflow.
+pub const OVERFLOW: u16 = 8;
+/// The interruption for a divisor of zero, and for a quotient that does not fit.
+pub const DIVIDE: u16 = 9;
 
 impl Case {
     /// The instruction's bytes.

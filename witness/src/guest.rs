@@ -1,7 +1,7 @@
 //! A small program for Hercules, in S/370 basic control mode. It walks a table of records: for each it loads the registers, goes to
 //! the case's code in problem state, catches the interruption that follows, and writes what it finds back into the record.
 
-use crate::case::{After, Case, End, WINDOW, ZONE};
+use crate::case::{After, Case, End, OVERFLOW, SPECIFICATION, WINDOW, ZONE};
 use common::bytes::{from_hex, put};
 use common::hercules::OldPsw;
 
@@ -102,13 +102,16 @@ pub fn read(cases: &[Case], storage: &[u8]) -> Vec<After> {
 }
 
 /// The counter after the instruction, from the interruption that followed it: by the SVC that it went to, the zeros far off (no
-/// operation), or an odd address (specification).
+/// operation), or an odd address (specification). Any other interruption refuses the instruction itself.
 fn end(caught: u8, psw: &OldPsw) -> End {
     match (caught, psw.number) {
         (1, _) | (2, 1) => End::At(psw.place),
-        (2, 6) if psw.place % 2 == 1 => End::At(psw.place),
-        (2, 8) => End::Overflow(psw.address),
-        _ => End::Refused(psw.number),
+        (2, SPECIFICATION) if psw.place % 2 == 1 => End::At(psw.place),
+        (2, OVERFLOW) => End::Overflow(psw.address),
+        (_, interruption) => End::Refused {
+            interruption,
+            at: psw.place,
+        },
     }
 }
 
@@ -146,8 +149,11 @@ mod tests {
         assert_eq!(end(1, &psw(1, 0x1000)), End::At(0x1000));
         assert_eq!(end(2, &psw(1, 0x1000)), End::At(0x1000));
         assert_eq!(end(2, &psw(6, 0x1001)), End::At(0x1001));
-        assert_eq!(end(2, &psw(6, 0x1000)), End::Refused(6));
         assert_eq!(end(2, &psw(8, 0x1000)), End::Overflow(0x1002));
-        assert_eq!(end(2, &psw(5, 0x1000)), End::Refused(5));
+        for interruption in [5, 6, 9] {
+            let at = 0x1000;
+            let refused = End::Refused { interruption, at };
+            assert_eq!(end(2, &psw(interruption, at)), refused);
+        }
     }
 }

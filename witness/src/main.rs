@@ -3,6 +3,7 @@
 //!
 //! Status: 0 all agree, 1 some differ, 2 something could not be run.
 
+mod arithmetic;
 mod case;
 mod compare;
 mod draft;
@@ -10,6 +11,8 @@ mod draw;
 mod engine;
 mod guest;
 mod make;
+#[cfg(test)]
+mod reach;
 mod tally;
 
 use case::Case;
@@ -66,8 +69,9 @@ fn report(witness: &Witness) -> usize {
     }
     print_line("total", &SET.len().to_string(), &total);
     println!(
-        "Code or an operand across the edge of a page: {}. Branches taken: {}. Interruptions for overflow by Hercules {}: {}.",
-        total.crossings, total.branches, witness.version, total.overflows
+        "Code or an operand across the edge of a page: {}. Branches taken: {}. Interruptions by Hercules {}: for overflow {}, for a \
+         divide {}, for an odd register of a pair {}.",
+        total.crossings, total.branches, witness.version, total.overflows, total.divides, total.odd_pairs
     );
     total.different
 }

@@ -1,5 +1,6 @@
 //! Cases, by the shape of the instruction. The same number and window give the same case everywhere.
 
+use crate::arithmetic;
 use crate::case::Case;
 use crate::draft::Draft;
 use crate::draw::Draw;
@@ -7,25 +8,33 @@ use common::set::{Instruction, Shape};
 
 pub fn make(instruction: &'static Instruction, number: usize, window_at: u32) -> Case {
     let mut draft = Draft::new(instruction, number, window_at);
-    let (fields, target) = match instruction.shape {
-        Shape::Registers => (registers(&mut draft), None),
-        Shape::RegisterBranch => register_branch(&mut draft),
-        Shape::Storage { width, stores } => (storage(&mut draft, width, stores), None),
-        Shape::Address => (address(&mut draft), None),
-        Shape::StorageBranch => storage_branch(&mut draft),
-        Shape::Multiple { stores } => (multiple(&mut draft, stores), None),
-        Shape::IndexBranch => index_branch(&mut draft),
-        Shape::Shift => (shift(&mut draft), None),
-        Shape::Immediate { stores } => (immediate(&mut draft, stores), None),
-        Shape::Fields { stores } => (two_fields(&mut draft, stores), None),
+    let (fields, target) = match arithmetic::fields(&mut draft, instruction) {
+        Some(fields) => (fields, None),
+        None => by_shape(&mut draft, instruction.shape),
     };
     let mut text = vec![instruction.operation];
     text.extend(fields);
     draft.finish(instruction, number, &text, target)
 }
 
+/// The bytes after the operation code, and where a branch goes.
+fn by_shape(draft: &mut Draft, shape: Shape) -> (Vec<u8>, Option<u32>) {
+    match shape {
+        Shape::Registers => (registers(draft), None),
+        Shape::RegisterBranch => register_branch(draft),
+        Shape::Storage { width, stores } => (storage(draft, width, stores), None),
+        Shape::Address => (address(draft), None),
+        Shape::StorageBranch => storage_branch(draft),
+        Shape::Multiple { stores } => (multiple(draft, stores), None),
+        Shape::IndexBranch => index_branch(draft),
+        Shape::Shift => (shift(draft), None),
+        Shape::Immediate { stores } => (immediate(draft, stores), None),
+        Shape::Fields { stores } => (two_fields(draft, stores), None),
+    }
+}
+
 /// Two numbers of four bits in a byte.
-fn pair(first: usize, second: usize) -> u8 {
+pub fn nibbles(first: usize, second: usize) -> u8 {
     (first << 4 | second) as u8
 }
 
@@ -35,9 +44,9 @@ fn address_bytes(base: usize, displacement: u32) -> [u8; 2] {
 }
 
 /// The three bytes after the code of RX and RS instructions.
-fn four(first: usize, second: usize, base: usize, displacement: u32) -> Vec<u8> {
+pub fn four(first: usize, second: usize, base: usize, displacement: u32) -> Vec<u8> {
     let [high, low] = address_bytes(base, displacement);
-    vec![pair(first, second), high, low]
+    vec![nibbles(first, second), high, low]
 }
 
 fn three_registers(draft: &mut Draft) -> [usize; 3] {
@@ -47,7 +56,7 @@ fn three_registers(draft: &mut Draft) -> [usize; 3] {
 fn registers(draft: &mut Draft) -> Vec<u8> {
     let (r1, r2) = (draft.dice.register(), draft.dice.register());
     draft.regs[r2] = draft.dice.near(draft.regs[r1]);
-    vec![pair(r1, r2)]
+    vec![nibbles(r1, r2)]
 }
 
 /// A count at which a branch on count turns.
@@ -65,7 +74,7 @@ fn register_branch(draft: &mut Draft) -> (Vec<u8>, Option<u32>) {
     if let Some(at) = target {
         draft.set_address(r2, at);
     }
-    (vec![pair(r1, r2)], target)
+    (vec![nibbles(r1, r2)], target)
 }
 
 fn storage(draft: &mut Draft, width: u32, stores: bool) -> Vec<u8> {

@@ -8,7 +8,7 @@ use super::store::{refuse, Access, Purpose, Refusal, ADDRESS, SPECIFICATION};
 const MULTIPLE: usize = 64;
 
 #[inline(always)]
-fn on_boundary(at: u32, bytes: usize) -> Result<(), Refusal> {
+pub fn on_boundary(at: u32, bytes: usize) -> Result<(), Refusal> {
     if at % bytes as u32 == 0 {
         Ok(())
     } else {

@@ -83,6 +83,11 @@ impl Access for ByByte {
     }
 
     #[inline(always)]
+    fn peek<const N: usize>(store: &Store, at: u32) -> [u8; N] {
+        std::array::from_fn(|i| store.memory[store.real(onward(at, i as u32))])
+    }
+
+    #[inline(always)]
     fn save<const N: usize>(store: &mut Store, at: u32, bytes: [u8; N]) {
         for (i, byte) in (0..).zip(bytes) {
             write(store, onward(at, i), byte);

@@ -166,6 +166,11 @@ impl Access for ByPage {
     }
 
     #[inline(always)]
+    fn peek<const N: usize>(store: &Store, at: Place) -> [u8; N] {
+        bytes_at(store, at.real)
+    }
+
+    #[inline(always)]
     fn save<const N: usize>(store: &mut Store, at: Place, bytes: [u8; N]) {
         store.mark(at.page, ACCESSED | WRITTEN);
         store.memory[at.real..at.real + N].copy_from_slice(&bytes);

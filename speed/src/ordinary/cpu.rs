@@ -20,9 +20,9 @@ const IN_SET: [bool; 256] = {
     while operation < set.len() {
         set[operation] = matches!(
             operation,
-            0x05..=0x07 | 0x10..=0x1B | 0x1E | 0x1F
-            | 0x40..=0x43 | 0x45..=0x48 | 0x50 | 0x54..=0x5B | 0x5E | 0x5F
-            | 0x86..=0x89 | 0x90..=0x92 | 0x94..=0x98
+            0x05..=0x07 | 0x10..=0x1F
+            | 0x40..=0x43 | 0x45..=0x4C | 0x50 | 0x54..=0x5F
+            | 0x86..=0x8B | 0x8E..=0x92 | 0x94..=0x98
             | 0xD2 | 0xD5
         );
         operation += 1;
@@ -86,7 +86,10 @@ impl<'a, A: Access> Cpu<'a, A> {
         let length = match operation >> 6 {
             0 => {
                 self.counter = onward(counter, 2);
-                self.rr(operation, second);
+                if let Err(refusal) = self.rr(operation, second) {
+                    self.counter = counter;
+                    return Err(refusal);
+                }
                 2
             }
             1 | 2 => {

@@ -2,13 +2,14 @@
 
 use super::cpu::{nibbles, Cpu};
 use super::results::{
-    add, add_logical, below_zero, bits, signed, subtract, subtract_logical, without_sign,
+    add, add_logical, below_zero, bits, shift_left, shift_pair_left, shift_pair_right, shift_right,
+    signed, subtract, subtract_logical, without_sign,
 };
 use super::store::{Access, Refusal, ADDRESS};
 
 impl<A: Access> Cpu<'_, A> {
     #[inline(always)]
-    pub fn rr(&mut self, operation: u8, second: u8) {
+    pub fn rr(&mut self, operation: u8, second: u8) -> Result<(), Refusal> {
         let (r1, r2) = nibbles(second);
         let (one, other) = (self.registers[r1], self.registers[r2]);
         match operation {
@@ -33,9 +34,12 @@ impl<A: Access> Cpu<'_, A> {
             0x19 => self.compare(one as i32, other as i32),
             0x1A => self.set(r1, add(one, other)),
             0x1B => self.set(r1, subtract(one, other)),
+            0x1C => return self.multiply_register(r1, other),
+            0x1D => return self.divide_register(r1, other),
             0x1E => self.set(r1, add_logical(one, other)),
             _ => self.set(r1, subtract_logical(one, other)),
         }
+        Ok(())
     }
 
     #[inline(always)]
@@ -59,9 +63,24 @@ impl<A: Access> Cpu<'_, A> {
             }
             0x47 => self.branch_if(self.picked(r1), at),
             0x48 => self.registers[r1] = self.half(at)?,
+            0x49..=0x4C => return self.rx_half(operation, r1, one, at),
             0x50 => return self.save(at, one.to_be_bytes()),
             0x58 => self.registers[r1] = self.word(at)?,
+            0x5C => return self.multiply_word(r1, at),
+            0x5D => return self.divide_word(r1, at),
             _ => return self.rx_combine(operation, r1, one, at),
+        }
+        Ok(())
+    }
+
+    #[inline(always)]
+    fn rx_half(&mut self, operation: u8, r1: usize, one: u32, at: u32) -> Result<(), Refusal> {
+        let other = self.half(at)?;
+        match operation {
+            0x49 => self.compare(one as i32, other as i32),
+            0x4A => self.set(r1, add(one, other)),
+            0x4B => self.set(r1, subtract(one, other)),
+            _ => self.registers[r1] = one.wrapping_mul(other),
         }
         Ok(())
     }
@@ -99,6 +118,10 @@ impl<A: Access> Cpu<'_, A> {
             }
             0x88 => self.registers[r1] = one.checked_shr(at & 63).unwrap_or(0),
             0x89 => self.registers[r1] = one.checked_shl(at & 63).unwrap_or(0),
+            0x8A => self.set(r1, shift_right(one, at & 63)),
+            0x8B => self.set(r1, shift_left(one, at & 63)),
+            0x8E => return self.shift_pair(r1, at & 63, shift_pair_right),
+            0x8F => return self.shift_pair(r1, at & 63, shift_pair_left),
             0x90 => return self.save_multiple(r1, r3, at),
             _ => return self.load_multiple(r1, r3, at),
         }

@@ -6,6 +6,7 @@ mod by_byte;
 mod by_page;
 mod cpu;
 mod formats;
+mod pairs;
 mod results;
 mod store;
 

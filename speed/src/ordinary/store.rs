@@ -31,6 +31,7 @@ pub const SPECIFICATION: u32 = 2;
 const PAGING_QUEUE: u32 = 3;
 const PAGING_ERROR: u32 = 4;
 pub const OPERATION: u32 = 5;
+pub const DIVIDE_ERROR: u32 = 8;
 
 #[cold]
 pub fn refuse<T>(number: u32, place: u32) -> Result<T, Refusal> {
@@ -163,6 +164,8 @@ pub trait Access {
         purpose: Purpose,
     ) -> Result<Self::Short, Refusal>;
     fn load<const N: usize>(store: &mut Store, at: Self::Short) -> [u8; N];
+    /// A load that sets no marks yet: what is loaded may still be refused.
+    fn peek<const N: usize>(store: &Store, at: Self::Short) -> [u8; N];
     fn save<const N: usize>(store: &mut Store, at: Self::Short, bytes: [u8; N]);
 
     fn long(

@@ -1,7 +1,8 @@
 //! Instructions whose fields have every kind of value, for a listing.
 
+use crate::told::SHIFTS;
 use common::dice::Dice;
-use second::operations::{Form, Operation, SLL, SRL};
+use second::operations::{Form, Operation};
 
 /// How many bits each field after the operation code has.
 fn widths(form: Form) -> &'static [u32] {
@@ -42,7 +43,7 @@ pub fn make(operation: &Operation, number: usize) -> Vec<u8> {
 
 /// Shifts ignore R3, and no witness tells it: every other one has it 0.
 fn is_shift(operation: &Operation) -> bool {
-    [SLL, SRL].contains(&operation.code)
+    SHIFTS.contains(&operation.name)
 }
 
 #[cfg(test)]

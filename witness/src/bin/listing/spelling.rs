@@ -1,6 +1,6 @@
 //! From objdump's spelling to the listing's. README.md lists the differences, and why they are there.
 
-use crate::told::UNTOLD;
+use crate::told::{SHIFTS, UNTOLD};
 
 /// What objdump writes for BC with each mask; for BCR an `r` follows.
 const CONDITIONS: [&str; 16] = [
@@ -19,7 +19,7 @@ pub fn spell(bytes: &[u8], name: &str, operands: &str) -> (String, String) {
         };
         return (name.to_string(), format!("{mask},{target}"));
     }
-    let is_shift = ["sll", "srl"].contains(&name);
+    let is_shift = SHIFTS.contains(&&name.to_uppercase()[..]);
     let operands = match parts[..] {
         _ if is_refused_shift(bytes, name) => {
             return (UNTOLD.to_string(), "?,?,?(?)".to_string());
@@ -45,9 +45,10 @@ fn condition(name: &str) -> Option<(&'static str, usize)> {
     }
 }
 
-/// Later machines have no shift whose R3 is not 0.
+/// Later machines have no shift whose R3 is not 0. (8C and 8D are shifts as well, but not in the set.)
 fn is_refused_shift(bytes: &[u8], name: &str) -> bool {
-    name == ".long" && matches!(bytes, [0x88 | 0x89, second, _, _] if second & 15 != 0)
+    let is_shift = |code| matches!(code, 0x88..=0x8B | 0x8E | 0x8F);
+    name == ".long" && matches!(bytes, [code, second, _, _] if is_shift(*code) && second & 15 != 0)
 }
 
 /// Operands, parted at commas that are not in brackets.

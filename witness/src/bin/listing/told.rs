@@ -5,6 +5,9 @@ use common::bytes::from_hex;
 /// Stands for a name or a figure that a witness does not tell.
 pub const UNTOLD: &str = "?";
 
+/// The shifts, which ignore R3, so that no witness tells it.
+pub const SHIFTS: [&str; 6] = ["SLL", "SRL", "SLA", "SRA", "SLDA", "SRDA"];
+
 /// One line of a witness, in the spelling of the listing.
 #[derive(Clone, Debug, PartialEq, Eq)]
 pub struct Told {

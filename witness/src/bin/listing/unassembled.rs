@@ -1,7 +1,7 @@
 //! What Hercules' command `u` says of code, in the spelling of the listing. README.md lists where the two spellings differ.
 
 use crate::spelling::immediate;
-use crate::told::{bytes_of, Told};
+use crate::told::{bytes_of, Told, SHIFTS};
 use common::hercules;
 use std::path::Path;
 
@@ -31,7 +31,7 @@ fn line(text: &str) -> Option<Told> {
 
 fn spell(name: &str, operands: &str) -> String {
     match operands.split_once(',') {
-        Some((r1, place)) if ["SLL", "SRL"].contains(&name) => format!("{r1},?,{place}"),
+        Some((r1, place)) if SHIFTS.contains(&name) => format!("{r1},?,{place}"),
         Some((place, byte)) if place.ends_with(')') && !byte.contains('(') => {
             format!("{place},{}", immediate(byte))
         }
@@ -67,6 +67,11 @@ mod tests {
         spells(
             "R0000A000: 88123456     SRL   1,1110(3)              shift_right_single_logical",
             "SRL",
+            "1,?,1110(3)",
+        );
+        spells(
+            "R0000A000: 8F123456     SLDA  1,1110(3)              shift_left_double",
+            "SLDA",
             "1,?,1110(3)",
         );
         spells(
