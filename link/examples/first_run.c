@@ -37,11 +37,12 @@ static void explain(uint32_t number, uint32_t place)
         const char *before, *after;
     } words[] = {
         [SPECTRA46_ADDRESSING] = {"addressing: no memory at ", ""},
-        [SPECTRA46_SPECIFICATION] = {"specification: ", " is off its boundary"},
+        [SPECTRA46_SPECIFICATION] = {"specification: ", " is off its boundary, or has an odd R1 for a pair"},
         [SPECTRA46_PAGING_QUEUE] = {"paging queue: the page of ", " is not usable"},
         [SPECTRA46_PAGING_ERROR] = {"paging error: the page of ", " does not allow this access"},
         [SPECTRA46_OPERATION] = {"operation: that at ", " is not in the set"},
         [SPECTRA46_OUT_OF_RANGE] = {"out of range: a list's length, counter, code, mask or budget; place ", ""},
+        [SPECTRA46_DIVIDE_ERROR] = {"divide error: that at ", " has no quotient that fits"},
     };
     if (number < sizeof words / sizeof words[0] && words[number].before)
         printf("%" PRIu32 ", %s%06" PRIX32 "%s\n", number, words[number].before, place, words[number].after);

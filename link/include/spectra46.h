@@ -26,15 +26,17 @@
  *
  *   0  completed: a single step, with place 0 and count 1; or a listing
  *   1  addressing: an address of 2,097,152 or more, or a real address beyond memory. Place: the first failing byte
- *   2  specification: an odd program counter, or an operand off its boundary. Place: the counter, or the operand's address
+ *   2  specification: an odd program counter, an odd R1 where the instruction needs a pair of registers, or an operand off its
+ *      boundary. Place: the counter, or the operand's address
  *   3  paging queue: the page is not usable (U reset). Place: the first failing byte
  *   4  paging error: an X bit set, past the end of a 2,048-byte page, S reset, or a store where E is set. Place: the first failing
  *      byte
  *   5  the operation is not in the set. Place: the program counter
  *   6  a list of the wrong length, or counter, code, mask, budget or a listing's start out of range. Place 0, count 0
  *   7  the budget is spent: a run only. Place 0, count is the budget
+ *   8  divide error: the divisor is zero, or the quotient does not fit a register. Place: the program counter
  *
- * Numbers 1 to 6 alter nothing in the step that they refuse: memory, map, registers, counter, code and mask are as they were
+ * Numbers 1 to 6 and 8 alter nothing in the step that they refuse: memory, map, registers, counter, code and mask are as they were
  * after the steps that count tells.
  *
  * Versions. A caller compares the library that it is linked with to the header that it was compiled with, before any other call:
@@ -42,11 +44,11 @@
  *     if (spectra46_version() / 256 != SPECTRA46_VERSION / 256) ... another library: use nothing of it
  *
  * While the first two numbers of the version stay, so do the functions here, their parameters and the order of these, the lengths of
- * the lists, the reply's six numbers and their order, the form of a listing's lines and what is told of it, and what the numbers 0 to 7
+ * the lists, the reply's six numbers and their order, the form of a listing's lines and what is told of it, and what the numbers 0 to 8
  * mean. The third number moves for what no caller has to know. When the second moves, any of this may have changed, and CHANGELOG.md
  * says what.
  *
- * Numbers beyond 7 may be added in any version. A caller must take every number that it does not know as a refusal: the step was
+ * Numbers beyond 8 may be added in any version. A caller must take every number that it does not know as a refusal: the step was
  * not done, nothing was listed. So ask whether the number is SPECTRA46_COMPLETED after a step or a listing and SPECTRA46_BUDGET_SPENT
  * after a run, never whether it is one of the refusals. */
 #ifndef SPECTRA46_H
@@ -59,8 +61,8 @@
 extern "C" {
 #endif
 
-/* This header's version, 0.4.0, as one number: major * 65,536 + minor * 256 + patch. */
-#define SPECTRA46_VERSION 1024
+/* This header's version, 0.5.0, as one number: major * 65,536 + minor * 256 + patch. */
+#define SPECTRA46_VERSION 1280
 
 enum {
     SPECTRA46_COMPLETED = 0,
@@ -70,7 +72,8 @@ enum {
     SPECTRA46_PAGING_ERROR = 4,
     SPECTRA46_OPERATION = 5,
     SPECTRA46_OUT_OF_RANGE = 6,
-    SPECTRA46_BUDGET_SPENT = 7
+    SPECTRA46_BUDGET_SPENT = 7,
+    SPECTRA46_DIVIDE_ERROR = 8
 };
 
 #define SPECTRA46_PAGES 512
@@ -83,14 +86,14 @@ enum {
 /* The version of the library that is linked, in the form of SPECTRA46_VERSION. */
 uint32_t spectra46_version(void);
 
-/* One instruction. Returns 0 to 6.
+/* One instruction. Returns 0 to 6, or 8.
  * Where reply_len is not 6, returns 6 and writes nothing at all; any other 6 writes 6, 0, 0 to reply[0] to reply[2] and no more. */
 uint32_t spectra46_step(uint8_t *mem, size_t mem_len,
                         uint16_t *map, size_t map_len,
                         uint32_t *regs, size_t regs_len,
                         uint32_t *reply, size_t reply_len);
 
-/* At most budget instructions, 0 to 65,535, up to the first refusal. Returns 1 to 7, and 7 with count 0 for budget 0.
+/* At most budget instructions, 0 to 65,535, up to the first refusal. Returns 1 to 8, and 7 with count 0 for budget 0.
  * A reply_len that is not 6, and any other 6, are as for a step. */
 uint32_t spectra46_run(uint8_t *mem, size_t mem_len,
                        uint16_t *map, size_t map_len,

@@ -189,11 +189,18 @@ mod tests {
     }
 
     #[test]
+    fn a_divide_error_is_a_refusal_of_either_call() {
+        let refusal = Refusal::DivideError { at: 9 };
+        assert_eq!(told(8).of_step(), Err(refusal));
+        assert_eq!(told(8).of_run().stop, Stop::Refused(refusal));
+    }
+
+    #[test]
     fn numbers_of_the_other_call_are_not_known() {
         let unknown = |number| Refusal::Unknown { number, at: 9 };
         assert_eq!(told(7).of_step(), Err(unknown(7)));
         assert_eq!(told(0).of_run().stop, Stop::Refused(unknown(0)));
-        assert_eq!(told(8).of_step(), Err(unknown(8)));
-        assert_eq!(told(8).of_run().stop, Stop::Refused(unknown(8)));
+        assert_eq!(told(9).of_step(), Err(unknown(9)));
+        assert_eq!(told(9).of_run().stop, Stop::Refused(unknown(9)));
     }
 }

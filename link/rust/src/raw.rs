@@ -8,7 +8,7 @@
 pub const COMPLETED: u32 = 0;
 /// An address of 2,097,152 or more, or a real address beyond memory.
 pub const ADDRESSING: u32 = 1;
-/// An odd program counter, or an operand off its boundary.
+/// An odd program counter, an odd R1 where a pair of registers is needed, or an operand off its boundary.
 pub const SPECIFICATION: u32 = 2;
 /// A page that is not usable.
 pub const PAGING_QUEUE: u32 = 3;
@@ -20,6 +20,8 @@ pub const OPERATION: u32 = 5;
 pub const OUT_OF_RANGE: u32 = 6;
 /// A run did as many steps as were asked for.
 pub const BUDGET_SPENT: u32 = 7;
+/// A divisor of zero, or a quotient that does not fit a register.
+pub const DIVIDE_ERROR: u32 = 8;
 
 /// How many page words there are.
 pub const PAGES: usize = 512;

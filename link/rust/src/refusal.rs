@@ -1,4 +1,4 @@
-//! The numbers 1 to 6, and all that this crate does not know.
+//! The numbers 1 to 6 and 8, and all that this crate does not know.
 
 use crate::raw;
 use core::error::Error;
@@ -16,9 +16,9 @@ pub enum Refusal {
         /// The first failing byte.
         at: u32,
     },
-    /// Number 2: an odd program counter, or an operand off its boundary.
+    /// Number 2: an odd program counter, an odd R1 where a pair of registers is needed, or an operand off its boundary.
     Specification {
-        /// That counter or address.
+        /// The counter, or the operand's address.
         at: u32,
     },
     /// Number 3: a page that is not usable.
@@ -38,6 +38,11 @@ pub enum Refusal {
     },
     /// Number 6: memory of a wrong size, or counter, code, mask or budget out of range.
     OutOfRange,
+    /// Number 8: a divisor of zero, or a quotient that does not fit a register.
+    DivideError {
+        /// The program counter.
+        at: u32,
+    },
     /// A number that this crate does not know, from a later library: a refusal of which nothing more can be said.
     Unknown {
         /// The number.
@@ -57,6 +62,7 @@ impl Refusal {
             raw::PAGING_ERROR => Refusal::PagingError { at },
             raw::OPERATION => Refusal::Operation { at },
             raw::OUT_OF_RANGE => Refusal::OutOfRange,
+            raw::DIVIDE_ERROR => Refusal::DivideError { at },
             _ => Refusal::Unknown { number, at },
         }
     }
@@ -71,6 +77,7 @@ impl Refusal {
             Refusal::PagingError { .. } => raw::PAGING_ERROR,
             Refusal::Operation { .. } => raw::OPERATION,
             Refusal::OutOfRange => raw::OUT_OF_RANGE,
+            Refusal::DivideError { .. } => raw::DIVIDE_ERROR,
             Refusal::Unknown { number, .. } => number,
         }
     }
@@ -84,6 +91,7 @@ impl Refusal {
             | Refusal::PagingQueue { at }
             | Refusal::PagingError { at }
             | Refusal::Operation { at }
+            | Refusal::DivideError { at }
             | Refusal::Unknown { at, .. } => at,
             Refusal::OutOfRange => 0,
         }
@@ -97,7 +105,10 @@ impl fmt::Display for Refusal {
         match self {
             Refusal::Addressing { .. } => write!(f, "addressing: no memory at {at:06X}"),
             Refusal::Specification { .. } => {
-                write!(f, "specification: {at:06X} is off its boundary")
+                write!(
+                    f,
+                    "specification: {at:06X} is off its boundary, or has an odd R1 for a pair"
+                )
             }
             Refusal::PagingQueue { .. } => {
                 write!(f, "paging queue: the page of {at:06X} is not usable")
@@ -108,6 +119,12 @@ impl fmt::Display for Refusal {
             ),
             Refusal::Operation { .. } => write!(f, "operation: that at {at:06X} is not in the set"),
             Refusal::OutOfRange => write!(f, "out of range: memory, counter, code, mask or budget"),
+            Refusal::DivideError { .. } => {
+                write!(
+                    f,
+                    "divide error: that at {at:06X} has no quotient that fits"
+                )
+            }
             Refusal::Unknown { .. } => write!(f, "a number of a later library, at {at:06X}"),
         }
     }
@@ -127,10 +144,10 @@ mod tests {
     }
 
     #[test]
-    fn only_1_to_6_are_known() {
+    fn only_1_to_6_and_8_are_known() {
         for number in (0..=1_000).chain([u32::MAX]) {
             let is_known = !matches!(Refusal::of(number, 9), Refusal::Unknown { .. });
-            assert_eq!(is_known, (1..=6).contains(&number), "{number}");
+            assert_eq!(is_known, matches!(number, 1..=6 | 8), "{number}");
         }
     }
 

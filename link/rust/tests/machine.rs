@@ -1,4 +1,4 @@
-//! The machine as a Rust program meets it: each number from 0 to 7, and what a refusal leaves.
+//! The machine as a Rust program meets it: each number from 0 to 8, and what a refusal leaves.
 use spectra46::{raw, Machine, Refusal, Stop};
 
 /// A machine of so many bytes.
@@ -18,6 +18,9 @@ fn machine(program: &[u8]) -> Machine {
 const LA_1_5: [u8; 4] = [0x41, 0x10, 0x00, 0x05];
 const L_1_AT_2: [u8; 4] = [0x58, 0x10, 0x20, 0x00];
 const ST_1_AT_2: [u8; 4] = [0x50, 0x10, 0x20, 0x00];
+const D_4_AT_2: [u8; 4] = [0x5D, 0x40, 0x20, 0x00];
+const DR_4_6: [u8; 2] = [0x1D, 0x46];
+const DR_5_6: [u8; 2] = [0x1D, 0x56];
 
 /// A run ends so, after so many steps.
 fn runs(machine: &mut Machine, budget: u32, count: u32, stop: Stop) {
@@ -71,6 +74,13 @@ fn number_2_specification() {
     refuses(machine.clone(), Refusal::Specification { at: 0x00_A002 });
     machine.counter = 0x00_A001;
     refuses(machine, Refusal::Specification { at: 0x00_A001 });
+}
+
+#[test]
+fn number_2_an_odd_register_for_a_pair() {
+    let mut machine = machine(&DR_5_6);
+    machine.registers[6] = 1;
+    refuses(machine, Refusal::Specification { at: 0x00_A000 });
 }
 
 #[test]
@@ -160,6 +170,21 @@ fn number_7_budget_spent() {
 }
 
 #[test]
+fn number_8_divide_error() {
+    refuses(machine(&DR_4_6), Refusal::DivideError { at: 0x00_A000 });
+    let mut machine = machine(&D_4_AT_2);
+    machine.registers[2] = 0x00_A800;
+    refuses(machine.clone(), Refusal::DivideError { at: 0x00_A000 });
+    // 2^31 by 1 does not fit, and -2^31 does.
+    machine.memory[12_288 + 0x803] = 1;
+    machine.registers[5] = 0x8000_0000;
+    refuses(machine.clone(), Refusal::DivideError { at: 0x00_A000 });
+    machine.registers[4] = 0xFFFF_FFFF;
+    assert_eq!(machine.step(), Ok(()));
+    assert_eq!(machine.registers[4..6], [0, 0x8000_0000]);
+}
+
+#[test]
 fn the_count_names_the_state() {
     let mut machine = machine(&[0x41, 0x10, 0x00, 0x05, 0x1E, 0x11]);
     let stop = Stop::Refused(Refusal::Operation { at: 0x00_A006 });
@@ -188,7 +213,7 @@ fn what_a_refusal_says() {
         ),
         (
             Refusal::Specification { at: 9 },
-            "2, specification: 000009 is off its boundary",
+            "2, specification: 000009 is off its boundary, or has an odd R1 for a pair",
         ),
         (
             Refusal::PagingQueue { at: 9 },
@@ -205,6 +230,10 @@ fn what_a_refusal_says() {
         (
             Refusal::OutOfRange,
             "6, out of range: memory, counter, code, mask or budget",
+        ),
+        (
+            Refusal::DivideError { at: 9 },
+            "8, divide error: that at 000009 has no quotient that fits",
         ),
     ] {
         assert_eq!(refusal.to_string(), said);

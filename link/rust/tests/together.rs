@@ -46,6 +46,7 @@ fn numbers_of_the_header() {
         ("OPERATION", raw::OPERATION),
         ("OUT_OF_RANGE", raw::OUT_OF_RANGE),
         ("BUDGET_SPENT", raw::BUDGET_SPENT),
+        ("DIVIDE_ERROR", raw::DIVIDE_ERROR),
         ("PAGES", raw::PAGES as u32),
         ("REGISTERS", raw::REGISTERS as u32),
         ("REPLY", raw::REPLY as u32),
