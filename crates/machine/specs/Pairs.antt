@@ -4,7 +4,7 @@ use lib.Dec.{eqb}
 use Rattle.words.specs.Pick.{pick}
 use Rattle.words.specs.declared.Paired.{Paired}
 use Rattle.words.specs.declared.Paired.the-variants.{Value, DivideError}
-use Rattle.words.specs.Wide.{joined}
+use Rattle.words.specs.Wide.{joined, pairedSays}
 use Rattle.machine.specs.Prog.{Prog, done, fail}
 use Rattle.machine.specs.Cpu.{Cpu, reg, withReg, onward}
 
@@ -19,7 +19,7 @@ withPair c r v = withReg (withReg c r (v / 4294967296)) (r + 1) (v % 4294967296)
 abbrev pub evenOnly : ℕ → Cpu → Prog Cpu → Prog Cpu
 evenOnly r c k = pick (eqb (r % 2) 0) k (fail 2 (c .pc))
 
--- the double word goes to the pair r, and the counter `len` bytes on; a divide error is 8 at the program counter (document 02)
+-- the double word goes to the pair r, and the counter `len` bytes on; a divide error has its number at the program counter (document 02)
 unfoldable pub intoPair : Paired → ℕ → ℕ → Cpu → Prog Cpu
 intoPair (Value v) len r c = done (withPair (onward c len) r v)
-intoPair DivideError len r c = fail 8 (c .pc)
+intoPair DivideError len r c = fail (pairedSays DivideError .number) (c .pc)
