@@ -19,38 +19,18 @@ fn past_of(pc: u32, n: u32) -> u32
     ((pc as u64 + n as u64) % 16777216) as u32
 }
 
-// How many halfwords are fetched, by the first: one only of an operation that is not known. Asking `decode::action_of` a second time would
-// make its answer in `finish` slower, so the known operations of four and six bytes are marked here: a row for each left digit of the
-// code, with the right digit 0 at the right.
+// How many halfwords are fetched, by the first: one only of an operation that is not known. The known ones of four and six bytes are bits,
+// in a row for each two left bits of the code (RR; RX; RS and SI; SS), the lowest code at the right: to ask `decode::action_of` a second
+// time would make its answer in `finish` slower.
 fn halves_of(h1: u16) -> u32
     ensures { λ r. ⌜ r ≡ halvesOf h1 ⌝ }
 {
-    let rows: [u16; 16] = [
-        0,
-        0,
-        0,
-        0,
-        0b0001_1111_1110_1111, // 40 to 43, 45 to 4C
-        0b1111_1111_1111_0001, // 50, 54 to 5F
-        0,
-        0,
-        0b1100_1111_1100_0000, // 86 to 8B, 8E, 8F
-        0b0000_0001_1111_0111, // 90 to 92, 94 to 98
-        0,
-        0,
-        0,
-        0b0000_0000_0010_0100, // D2, D5
-        0,
-        0,
-    ];
-    let row = rows[(h1 / 4096) as usize];
-    if (row >> (h1 / 256 % 16)) % 2 == 0 {
+    let rows: [u64; 4] = [0, 0xFFF1_1FEF, 0x01F7_CFC0, 0x0024_0000];
+    let row = rows[(h1 / 16384) as usize];
+    if (row >> (h1 / 256 % 64)) % 2 == 0 {
         return 1;
     }
-    if h1 < 49152 {
-        return 2;
-    }
-    3
+    if h1 < 49152 { 2 } else { 3 }
 }
 
 // A look-up's refusal, in place of the text.
