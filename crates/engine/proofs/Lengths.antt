@@ -52,24 +52,26 @@ below (suc n) k e l =
 
 -- by the code's tests
 module _ (h1 : ℕ) where
-  is-bit : getD rows (h1 / 16384) 0 / 2 ^ (h1 / 256 % 64) % 2 ≡ bit (h1 / 256)
+  -- the bit that the code asks for
+  abbrev asked : ℕ
+  asked = getD rows (h1 / 16384) 0 / 2 ^ (h1 / 256 % 64) % 2
+
+  is-bit : asked ≡ bit (h1 / 256)
   unfolding bit
   is-bit =
       let d : h1 / 16384 ≡ h1 / 256 / 64 = omega arith in
       ap (λ (i : ℕ). getD rows i 0 / 2 ^ (h1 / 256 % 64) % 2) d
 
-  pub one-half : getD rows (h1 / 16384) 0 / 2 ^ (h1 / 256 % 64) % 2 ≡ 0 → h1 < 65536 → 1 ≡ halvesOf h1
+  pub one-half : asked ≡ 0 → h1 < 65536 → 1 ≡ halvesOf h1
   unfolding by-bit
   one-half b l = rw (sym is-bit ∙ b) at (below 256 (h1 / 256) all-codes (omega arith))
 
-  pub two-halves : (getD rows (h1 / 16384) 0 / 2 ^ (h1 / 256 % 64) % 2 ≡ 0 → ⊥) → h1 < 49152 → 2 ≡ halvesOf h1
+  more : (asked ≡ 0 → ⊥) → h1 < 65536 → pick (ltb (h1 / 256) 192) 2 3 ≡ halvesOf h1
   unfolding by-bit
-  two-halves b l =
-      let m : h1 / 256 < 192 = omega arith in
-      rw (ne-eqb (bit (h1 / 256)) 0 (λ z. b (is-bit ∙ z)), lt-ltb (h1 / 256) 192 m) at (below 256 (h1 / 256) all-codes (omega arith))
+  more b l = rw (ne-eqb (bit (h1 / 256)) 0 (λ z. b (is-bit ∙ z))) at (below 256 (h1 / 256) all-codes (omega arith))
 
-  pub three-halves : (getD rows (h1 / 16384) 0 / 2 ^ (h1 / 256 % 64) % 2 ≡ 0 → ⊥) → 49152 ≤ h1 → h1 < 65536 → 3 ≡ halvesOf h1
-  unfolding by-bit
-  three-halves b g l =
-      let m : 192 ≤ h1 / 256 = omega arith in
-      rw (ne-eqb (bit (h1 / 256)) 0 (λ z. b (is-bit ∙ z)), le-ltb (h1 / 256) 192 m) at (below 256 (h1 / 256) all-codes (omega arith))
+  pub two-halves : (asked ≡ 0 → ⊥) → h1 < 49152 → 2 ≡ halvesOf h1
+  two-halves b l = rw (lt-ltb (h1 / 256) 192 (omega arith)) at (more b (omega arith))
+
+  pub three-halves : (asked ≡ 0 → ⊥) → 49152 ≤ h1 → h1 < 65536 → 3 ≡ halvesOf h1
+  three-halves b g l = rw (le-ltb (h1 / 256) 192 (omega arith)) at (more b l)
