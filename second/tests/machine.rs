@@ -3,10 +3,17 @@
 
 use second::machine::{Access, Machine, Refusal, Run, Step};
 
-const REFUSED_AT_THE_DOOR: Step = Step {
-    number: 6,
-    place: 0,
-};
+fn stepped(number: u32, place: u32) -> Step {
+    Step { number, place }
+}
+
+fn ran(number: u32, place: u32, count: u32) -> Run {
+    Run {
+        number,
+        place,
+        count,
+    }
+}
 
 /// A machine with code in page 10, frame 3 if it has one, else frame 0.
 fn with_code(size: usize, code: &[u8]) -> Machine {
@@ -29,22 +36,10 @@ fn a_completed_step_is_number_0_at_place_0() {
     expected.registers[1] = 5;
     expected.counter = 0x00_A004;
     expected.map[10] = 0x7003;
-    assert_eq!(
-        machine.step(),
-        Step {
-            number: 0,
-            place: 0
-        }
-    );
+    assert_eq!(machine.step(), stepped(0, 0));
     assert_eq!(machine, expected);
     // The zeros that follow are no operation, and alter nothing.
-    assert_eq!(
-        machine.step(),
-        Step {
-            number: 5,
-            place: 0x00_A004
-        }
-    );
+    assert_eq!(machine.step(), stepped(5, 0x00_A004));
     assert_eq!(machine, expected);
 }
 
@@ -54,16 +49,9 @@ fn refused_at_the_door(spoil: fn(&mut Machine)) {
     spoil(&mut machine);
     let before = machine.clone();
     assert!(machine.wrong_at_the_door());
-    assert_eq!(machine.step(), REFUSED_AT_THE_DOOR);
+    assert_eq!(machine.step(), stepped(6, 0));
     for budget in [0, 1, 65_535, 65_536] {
-        assert_eq!(
-            machine.run(budget),
-            Run {
-                number: 6,
-                place: 0,
-                count: 0
-            }
-        );
+        assert_eq!(machine.run(budget), ran(6, 0, 0));
     }
     assert_eq!(machine, before);
 }
@@ -106,22 +94,8 @@ fn values_at_their_edge_pass_the_door() {
         assert!(!machine.wrong_at_the_door());
         assert_ne!(machine.step().number, 6);
         assert_ne!(machine.run(65_535).number, 6);
-        assert_eq!(
-            machine.run(65_536),
-            Run {
-                number: 6,
-                place: 0,
-                count: 0
-            }
-        );
-        assert_eq!(
-            machine.run(u32::MAX),
-            Run {
-                number: 6,
-                place: 0,
-                count: 0
-            }
-        );
+        assert_eq!(machine.run(65_536), ran(6, 0, 0));
+        assert_eq!(machine.run(u32::MAX), ran(6, 0, 0));
     }
 }
 
@@ -129,32 +103,11 @@ fn values_at_their_edge_pass_the_door() {
 fn a_budget_out_of_range_alters_nothing() {
     let mut machine = load_five();
     let before = machine.clone();
-    assert_eq!(
-        machine.run(65_536),
-        Run {
-            number: 6,
-            place: 0,
-            count: 0
-        }
-    );
+    assert_eq!(machine.run(65_536), ran(6, 0, 0));
     assert_eq!(machine, before);
-    assert_eq!(
-        machine.run(0),
-        Run {
-            number: 7,
-            place: 0,
-            count: 0
-        }
-    );
+    assert_eq!(machine.run(0), ran(7, 0, 0));
     assert_eq!(machine, before);
-    assert_eq!(
-        machine.run(1),
-        Run {
-            number: 7,
-            place: 0,
-            count: 1
-        }
-    );
+    assert_eq!(machine.run(1), ran(7, 0, 1));
     assert_eq!(machine.counter, 0x00_A004);
 }
 
@@ -168,13 +121,7 @@ fn a_run_is_its_steps_one_after_another() {
         let mut by_step = by_run.clone();
         let run = by_run.run(budget);
         for _ in 0..run.count {
-            assert_eq!(
-                by_step.step(),
-                Step {
-                    number: 0,
-                    place: 0
-                }
-            );
+            assert_eq!(by_step.step(), stepped(0, 0));
         }
         assert_eq!(by_run, by_step);
         assert!(run.count <= budget);
@@ -209,7 +156,7 @@ fn a_refused_move_stores_nothing() {
         machine.map[21] = word;
         let before = machine.clone();
         let place = 0x01_5000;
-        assert_eq!(machine.step(), Step { number, place });
+        assert_eq!(machine.step(), stepped(number, place));
         assert_eq!(machine, before);
         machine.map[21] = 0x3006;
         moves_all(machine);
@@ -233,7 +180,7 @@ fn with_long_move() -> Machine {
 fn moves_all(mut machine: Machine) {
     let before = machine.clone();
     let (number, place) = (0, 0);
-    assert_eq!(machine.step(), Step { number, place });
+    assert_eq!(machine.step(), stepped(number, place));
     for index in 0..8 {
         let real = if index < 4 {
             4 * 4_096 + 4_092 + index
@@ -259,13 +206,7 @@ fn a_refused_second_field_stores_nothing() {
     machine.registers[3] = 0x01_E000;
     machine.memory[5 * 4_096 + 4_092] = 0x77;
     let before = machine.clone();
-    assert_eq!(
-        machine.step(),
-        Step {
-            number: 3,
-            place: 0x01_F000
-        }
-    );
+    assert_eq!(machine.step(), stepped(3, 0x01_F000));
     assert_eq!(machine, before);
 }
 
@@ -279,13 +220,7 @@ fn a_refused_multiple_store_or_load_alters_nothing() {
         }
         machine.registers[2] = 0x01_4000;
         let before = machine.clone();
-        assert_eq!(
-            machine.step(),
-            Step {
-                number: 3,
-                place: 0x01_5000
-            }
-        );
+        assert_eq!(machine.step(), stepped(3, 0x01_5000));
         assert_eq!(machine, before);
     }
 }
@@ -310,17 +245,8 @@ fn a_refused_division_alters_nothing() {
         machine.registers[7] = 1;
         let before = machine.clone();
         let place = 0x00_A000;
-        assert_eq!(machine.step(), Step { number, place });
-        let count = 0;
-        let ran = machine.run(9);
-        assert_eq!(
-            ran,
-            Run {
-                number,
-                place,
-                count
-            }
-        );
+        assert_eq!(machine.step(), stepped(number, place));
+        assert_eq!(machine.run(9), ran(number, place, 0));
         assert_eq!(machine, before);
     }
 }
@@ -338,7 +264,7 @@ fn pairs_in_lists_of_a_wrong_length_are_refused_at_the_door() {
             let mut machine = with_code(65_536, code);
             machine.registers.resize(count, 7);
             let before = machine.clone();
-            assert_eq!(machine.step(), REFUSED_AT_THE_DOOR);
+            assert_eq!(machine.step(), stepped(6, 0));
             assert_eq!(machine.run(1).number, 6);
             assert_eq!(machine, before);
         }
@@ -391,16 +317,7 @@ fn memory_of_other_sizes() {
         machine.map[10] = 0x3000 + (pages - 1) as u16;
         machine.memory[size - 4_096..size - 4_092].copy_from_slice(&[0x41, 0x10, 0x00, 0x05]);
         machine.counter = 0x00_A000;
-        let (number, place, count) = (7, 0, 1);
-        let ran = machine.run(1);
-        assert_eq!(
-            ran,
-            Run {
-                number,
-                place,
-                count
-            }
-        );
+        assert_eq!(machine.run(1), ran(7, 0, 1));
         assert_eq!(machine.registers[1], 5);
     }
 }
@@ -415,16 +332,7 @@ fn past_memory(machine: &mut Machine, frame: u16) {
     }
     assert_eq!(machine.run(0).number, 7);
     machine.counter = 0x00_A000;
-    let (place, count) = (0x00_A000, 0);
-    let ran = machine.run(1);
-    assert_eq!(
-        ran,
-        Run {
-            number,
-            place,
-            count
-        }
-    );
+    assert_eq!(machine.run(1), ran(number, 0x00_A000, 0));
 }
 
 #[test]
