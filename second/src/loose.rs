@@ -93,6 +93,20 @@ fn spoil(machine: &mut Machine, budget: &mut u32, dice: &mut Dice) {
 #[cfg(test)]
 mod tests {
     use super::*;
+    use crate::machine::{BUDGET_SPENT, DOOR, G};
+
+    /// No step was completed: all is as it was, but for G where a refused one
+    /// was fetched from.
+    fn assert_at_most_fetched(before: &Machine, after: &Machine, number: u32) {
+        let mut unmarked = after.clone();
+        if number != DOOR && number != BUDGET_SPENT {
+            unmarked.map.clone_from(&before.map);
+            for (old, new) in before.map.iter().zip(&after.map) {
+                assert!(new == old || *new == old | G);
+            }
+        }
+        assert_eq!(unmarked, *before);
+    }
 
     #[test]
     fn all_numbers_come_up() {
@@ -106,7 +120,7 @@ mod tests {
             let run = machine.run(budget);
             numbers[run.number as usize] += 1;
             if run.count == 0 {
-                assert_eq!(machine, before);
+                assert_at_most_fetched(&before, &machine, run.number);
             }
         }
         for number in [1, 2, 3, 4, 5, 6, 7, 8] {

@@ -1,8 +1,9 @@
 //! The machine: registers, counter, code, mask, memory and page words, and
 //! what one step and one run do to them.
 //!
-//! Everything is done byte by byte and nothing is stored before the whole
-//! instruction is known to complete.
+//! Everything is done byte by byte. Nothing is stored, and no operand's page
+//! marked, before the whole instruction is known to complete; but a page keeps
+//! G once a halfword was fetched from it, whatever comes of the instruction.
 
 use crate::operations::{self as op, Form};
 
@@ -129,9 +130,8 @@ impl Machine {
         if address >= 2_097_152 {
             return refuse(ADDRESSING);
         }
-        let page = (address / 4_096) as usize;
         let displacement = (address % 4_096) as usize;
-        let word = self.map[page];
+        let word = self.map[page_of(address)];
         if word & U == 0 {
             return refuse(PAGING_QUEUE);
         }
@@ -158,7 +158,8 @@ impl Machine {
         Ok(real)
     }
 
-    /// One instruction.
+    /// One instruction. A refused one leaves everything as it was, but for G on
+    /// the pages that it was fetched from as far as it was.
     pub fn step(&mut self) -> Step {
         self.step_and_tell().0
     }
@@ -187,7 +188,8 @@ impl Machine {
         (step, seen)
     }
 
-    /// At most `budget` instructions, up to the first refusal.
+    /// At most `budget` instructions, up to the first refusal. The refused one
+    /// is not counted; its marks stay.
     pub fn run(&mut self, budget: u32) -> Run {
         if self.wrong_at_the_door() || budget > 65_535 {
             return Run {
@@ -216,38 +218,34 @@ impl Machine {
     }
 
     fn one_instruction(&mut self, seen: &mut Option<u8>) -> Result<(), Refusal> {
-        let mut read_pages: Vec<usize> = Vec::with_capacity(8);
-        let mut stored_pages: Vec<usize> = Vec::new();
-        let parts = self.fetch(seen, &mut read_pages)?;
+        let parts = self.fetch(seen)?;
         self.test_pair(&parts)?;
-        let places = self.find_operands(&parts, &mut read_pages, &mut stored_pages)?;
+        let mut marks: Vec<(usize, u16)> = Vec::with_capacity(4);
+        let places = self.find_operands(&parts, &mut marks)?;
         self.test_quotient(&parts, &places)?;
 
         // From here on nothing is refused.
         self.execute(&parts, &places);
-        for page in read_pages {
-            self.map[page] |= G;
-        }
-        for page in stored_pages {
-            self.map[page] |= G | W;
+        for (page, mark) in marks {
+            self.map[page] |= mark;
         }
         Ok(())
     }
 
     /// The instruction: first halfword, operation, the other halfwords.
-    fn fetch(&self, seen: &mut Option<u8>, pages: &mut Vec<usize>) -> Result<Parts, Refusal> {
+    fn fetch(&mut self, seen: &mut Option<u8>) -> Result<Parts, Refusal> {
         if self.counter % 2 != 0 {
             return Err(self.refused_here(SPECIFICATION));
         }
         let mut text: Vec<u8> = Vec::with_capacity(6);
-        self.fetch_halfword(0, &mut text, pages)?;
+        self.fetch_halfword(0, &mut text)?;
         let code = text[0];
         *seen = Some(code);
         let operation = op::find(code).ok_or(self.refused_here(OPERATION))?;
         let length = op::length(code);
         let mut offset = 2;
         while offset < length {
-            self.fetch_halfword(offset, &mut text, pages)?;
+            self.fetch_halfword(offset, &mut text)?;
             offset += 2;
         }
         Ok(self.take_apart(operation.form, &text, length))
@@ -280,12 +278,11 @@ impl Machine {
     }
 
     /// The operands: boundaries first, then each byte of each field. Tells
-    /// where the bytes lie, and notes their pages.
+    /// where the bytes lie, and notes the marks that their pages are to get.
     fn find_operands(
         &self,
         parts: &Parts,
-        read_pages: &mut Vec<usize>,
-        stored_pages: &mut Vec<usize>,
+        marks: &mut Vec<(usize, u16)>,
     ) -> Result<Vec<Vec<usize>>, Refusal> {
         let fields = operand_fields(parts);
         for field in &fields {
@@ -298,33 +295,31 @@ impl Machine {
         }
         let mut places: Vec<Vec<usize>> = Vec::with_capacity(2);
         for field in &fields {
+            let mark = match field.access {
+                Access::Load => G,
+                Access::Store => G | W,
+            };
             let mut reals = Vec::with_capacity(field.length as usize);
             for index in 0..field.length {
                 let address = (field.address + index) & ADDRESS_BITS;
                 reals.push(self.look_up(address, field.access)?);
-                let page = (address / 4_096) as usize;
-                match field.access {
-                    Access::Load => note(read_pages, page),
-                    Access::Store => note(stored_pages, page),
-                }
+                note(marks, (page_of(address), mark));
             }
             places.push(reals);
         }
         Ok(places)
     }
 
-    fn fetch_halfword(
-        &self,
-        offset: u32,
-        text: &mut Vec<u8>,
-        pages: &mut Vec<usize>,
-    ) -> Result<(), Refusal> {
-        for index in offset..offset + 2 {
-            let address = (self.counter + index) & ADDRESS_BITS;
+    /// Two bytes of the instruction. To have fetched them is an access, and
+    /// their page is marked at once: no refusal after it takes that back.
+    fn fetch_halfword(&mut self, offset: u32, text: &mut Vec<u8>) -> Result<(), Refusal> {
+        let address = (self.counter + offset) & ADDRESS_BITS;
+        // The address is even: both bytes lie in one page.
+        for address in [address, address + 1] {
             let real = self.look_up(address, Access::Load)?;
             text.push(self.memory[real]);
-            note(pages, (address / 4_096) as usize);
         }
+        self.map[page_of(address)] |= G;
         Ok(())
     }
 
@@ -407,8 +402,12 @@ fn operand_fields(parts: &Parts) -> Vec<Field> {
     }
 }
 
-fn note(pages: &mut Vec<usize>, page: usize) {
-    if !pages.contains(&page) {
-        pages.push(page);
+fn page_of(address: u32) -> usize {
+    (address / 4_096) as usize
+}
+
+fn note(marks: &mut Vec<(usize, u16)>, mark: (usize, u16)) {
+    if !marks.contains(&mark) {
+        marks.push(mark);
     }
 }

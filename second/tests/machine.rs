@@ -25,6 +25,13 @@ fn with_code(size: usize, code: &[u8]) -> Machine {
     machine
 }
 
+/// The same machine after an instruction in page 10 was fetched, and refused.
+fn fetched(machine: &Machine) -> Machine {
+    let mut machine = machine.clone();
+    machine.map[10] = 0x7003;
+    machine
+}
+
 fn load_five() -> Machine {
     with_code(65_536, &[0x41, 0x10, 0x00, 0x05])
 }
@@ -38,7 +45,7 @@ fn a_completed_step_is_number_0_at_place_0() {
     expected.map[10] = 0x7003;
     assert_eq!(machine.step(), stepped(0, 0));
     assert_eq!(machine, expected);
-    // The zeros that follow are no operation, and alter nothing.
+    // The zeros that follow are no operation, and their page has its mark.
     assert_eq!(machine.step(), stepped(5, 0x00_A004));
     assert_eq!(machine, expected);
 }
@@ -154,10 +161,10 @@ fn a_refused_move_stores_nothing() {
     ] {
         let mut machine = with_long_move();
         machine.map[21] = word;
-        let before = machine.clone();
+        let expected = fetched(&machine);
         let place = 0x01_5000;
         assert_eq!(machine.step(), stepped(number, place));
-        assert_eq!(machine, before);
+        assert_eq!(machine, expected);
         machine.map[21] = 0x3006;
         moves_all(machine);
     }
@@ -205,13 +212,13 @@ fn a_refused_second_field_stores_nothing() {
     machine.registers[2] = 0x01_4000;
     machine.registers[3] = 0x01_E000;
     machine.memory[5 * 4_096 + 4_092] = 0x77;
-    let before = machine.clone();
+    let expected = fetched(&machine);
     assert_eq!(machine.step(), stepped(3, 0x01_F000));
-    assert_eq!(machine, before);
+    assert_eq!(machine, expected);
 }
 
 #[test]
-fn a_refused_multiple_store_or_load_alters_nothing() {
+fn a_refused_multiple_store_or_load_leaves_only_the_mark_of_its_fetch() {
     for code in [0x90, 0x98] {
         let mut machine = with_code(65_536, &[code, 0x0F, 0x2F, 0xC4]);
         machine.map[20] = 0x3004;
@@ -219,14 +226,14 @@ fn a_refused_multiple_store_or_load_alters_nothing() {
             machine.registers[number] = 0x1111_1111 * number as u32;
         }
         machine.registers[2] = 0x01_4000;
-        let before = machine.clone();
+        let expected = fetched(&machine);
         assert_eq!(machine.step(), stepped(3, 0x01_5000));
-        assert_eq!(machine, before);
+        assert_eq!(machine, expected);
     }
 }
 
 #[test]
-fn a_refused_division_alters_nothing() {
+fn a_refused_division_leaves_only_the_mark_of_its_fetch() {
     // D 4,0(0,2) by zero and by one; DR 4,6 the same; D and DR with an odd register.
     for (code, number) in [
         (&[0x5D, 0x40, 0x20, 0x00][..], 8),
@@ -243,11 +250,11 @@ fn a_refused_division_alters_nothing() {
         machine.registers[2] = 0x01_4000;
         machine.registers[4] = 0x8000_0000;
         machine.registers[7] = 1;
-        let before = machine.clone();
+        let expected = fetched(&machine);
         let place = 0x00_A000;
         assert_eq!(machine.step(), stepped(number, place));
         assert_eq!(machine.run(9), ran(number, place, 0));
-        assert_eq!(machine, before);
+        assert_eq!(machine, expected);
     }
 }
 

@@ -2,6 +2,8 @@
 
 use common::dice::Dice;
 use second::generate::Generator;
+use second::machine::{Access, Machine, Run, G};
+use second::operations as op;
 use second::{answer, set_up, sheet};
 
 #[test]
@@ -24,23 +26,57 @@ fn runs_stop_where_their_steps_do() {
         for _ in 0..run.count {
             assert_eq!(by_step.step().number, 0);
         }
-        assert_eq!(by_run, by_step);
         if run.number == 7 {
             assert_eq!((run.count, run.place), (sheet.budget, 0));
         } else {
-            // The refused step alters nothing, and is refused again.
-            let step = by_step.step();
-            assert_eq!((step.number, step.place), (run.number, run.place));
-            assert_eq!(by_run, by_step);
+            is_refused_again(&mut by_step, &run);
         }
-        // Page words only gain marks; the mask never changes.
-        assert_eq!(by_run.mask, start.mask);
-        for (after, before) in by_run.map.iter().zip(&start.map) {
-            assert_eq!(after & 0x3FFF, before & 0x3FFF);
-            assert_eq!(after & before, *before);
-            // W never comes without G.
-            assert!(after == before || after & 0x4000 != 0);
+        assert_eq!(by_run, by_step);
+        only_marks_came(&start, &by_run);
+    }
+}
+
+/// The refused step sets G where it was fetched from, alters nothing else, and
+/// is refused in the same way when it is tried again.
+fn is_refused_again(machine: &mut Machine, run: &Run) {
+    let mut expected = machine.clone();
+    for page in fetched_pages(machine) {
+        expected.map[page] |= G;
+    }
+    for _ in 0..2 {
+        let step = machine.step();
+        assert_eq!((step.number, step.place), (run.number, run.place));
+        assert_eq!(*machine, expected);
+    }
+}
+
+/// The pages from which halfwords of the next instruction can be fetched.
+fn fetched_pages(machine: &Machine) -> Vec<usize> {
+    let mut pages = Vec::new();
+    let mut length = 2;
+    let mut offset = 0;
+    while machine.counter % 2 == 0 && offset < length {
+        let address = (machine.counter + offset) % 0x100_0000;
+        let Ok(real) = machine.look_up(address, Access::Load) else {
+            break;
+        };
+        pages.push((address / 4_096) as usize);
+        if offset == 0 && op::find(machine.memory[real]).is_some() {
+            length = op::length(machine.memory[real]);
         }
+        offset += 2;
+    }
+    pages
+}
+
+/// Page words only gain marks; the mask never changes.
+fn only_marks_came(before: &Machine, after: &Machine) {
+    assert_eq!(after.mask, before.mask);
+    for (after, before) in after.map.iter().zip(&before.map) {
+        assert_eq!(after & 0x3FFF, before & 0x3FFF);
+        assert_eq!(after & before, *before);
+        // W never comes without G.
+        assert!(after == before || after & 0x4000 != 0);
     }
 }
 

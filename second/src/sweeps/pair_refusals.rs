@@ -96,8 +96,8 @@ pub fn divisors_in_bad_pages(case: u32, dice: &mut Dice) -> Draft {
     scene.finish(dice)
 }
 
-/// DR and D that fail, with every setting of the marks beforehand: none of
-/// them may change.
+/// DR and D that fail, with every setting of the marks beforehand: none may
+/// change but G of the pages of the instruction.
 pub fn divide_errors(case: u32, dice: &mut Dice) -> Draft {
     let code = [op::DR, op::D][(case % 2) as usize];
     let divisor = [0, dice.pick(&[1, 0xFFFF_FFFF])][(case / 2 % 2) as usize];
