@@ -159,7 +159,7 @@ impl Machine {
     }
 
     /// One instruction. A refused one leaves everything as it was, but for G on
-    /// the pages that it was fetched from as far as it was.
+    /// each page from which a halfword of it was fetched.
     pub fn step(&mut self) -> Step {
         self.step_and_tell().0
     }
