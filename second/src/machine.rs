@@ -164,18 +164,17 @@ impl Machine {
         self.step_and_tell().0
     }
 
-    /// One instruction; also tells the operation code, when its halfword
-    /// could be fetched.
-    pub fn step_and_tell(&mut self) -> (Step, Option<u8>) {
+    /// One instruction; also tells its bytes, as far as they were fetched.
+    pub fn step_and_tell(&mut self) -> (Step, Vec<u8>) {
+        let mut text: Vec<u8> = Vec::with_capacity(6);
         if self.wrong_at_the_door() {
             let step = Step {
                 number: DOOR,
                 place: 0,
             };
-            return (step, None);
+            return (step, text);
         }
-        let mut seen = None;
-        let step = match self.one_instruction(&mut seen) {
+        let step = match self.one_instruction(&mut text) {
             Ok(()) => Step {
                 number: COMPLETED,
                 place: 0,
@@ -185,7 +184,7 @@ impl Machine {
                 place: refusal.place,
             },
         };
-        (step, seen)
+        (step, text)
     }
 
     /// At most `budget` instructions, up to the first refusal. The refused one
@@ -217,8 +216,8 @@ impl Machine {
         }
     }
 
-    fn one_instruction(&mut self, seen: &mut Option<u8>) -> Result<(), Refusal> {
-        let parts = self.fetch(seen)?;
+    fn one_instruction(&mut self, text: &mut Vec<u8>) -> Result<(), Refusal> {
+        let parts = self.fetch(text)?;
         self.test_pair(&parts)?;
         let mut marks: Vec<(usize, u16)> = Vec::with_capacity(4);
         let places = self.find_operands(&parts, &mut marks)?;
@@ -233,22 +232,20 @@ impl Machine {
     }
 
     /// The instruction: first halfword, operation, the other halfwords.
-    fn fetch(&mut self, seen: &mut Option<u8>) -> Result<Parts, Refusal> {
+    fn fetch(&mut self, text: &mut Vec<u8>) -> Result<Parts, Refusal> {
         if self.counter % 2 != 0 {
             return Err(self.refused_here(SPECIFICATION));
         }
-        let mut text: Vec<u8> = Vec::with_capacity(6);
-        self.fetch_halfword(0, &mut text)?;
+        self.fetch_halfword(0, text)?;
         let code = text[0];
-        *seen = Some(code);
         let operation = op::find(code).ok_or(self.refused_here(OPERATION))?;
         let length = op::length(code);
         let mut offset = 2;
         while offset < length {
-            self.fetch_halfword(offset, &mut text)?;
+            self.fetch_halfword(offset, text)?;
             offset += 2;
         }
-        Ok(self.take_apart(operation.form, &text, length))
+        Ok(self.take_apart(operation.form, text, length))
     }
 
     /// A refusal whose place is the program counter.
