@@ -71,13 +71,12 @@ impl Generator {
         let index = self.index;
         self.index += 1;
         let mut dice = Dice::for_one(self.seed, index);
-        match index % 10 {
-            0..=5 => self.next_sweep(&mut dice),
-            6 => Made::of("program", programs::program(&mut dice)),
-            7 => self.next_bad(&mut dice),
-            8 => self.some_good(&mut dice).changed(&mut dice),
-            _ if index % 30 == 19 => Made::of("program", programs::program(&mut dice)),
-            _ if index % 1_000 == 9 => Made::of("long", programs::long(&mut dice)),
+        match index % 60 {
+            0..=39 => self.next_sweep(&mut dice),
+            40..=48 => Made::of("program", programs::program(&mut dice)),
+            49..=52 => self.next_bad(&mut dice),
+            53..=55 => self.some_good(&mut dice).changed(&mut dice),
+            _ if index % 1_500 == 59 => Made::of("long", programs::long(&mut dice)),
             _ => Made::of("wild", programs::wild(&mut dice)),
         }
     }

@@ -3,6 +3,7 @@
 
 mod branches;
 mod fields;
+mod marks;
 mod pages;
 mod pair_refusals;
 mod runs;
@@ -25,7 +26,7 @@ const fn sweep(name: &'static str, cases: u32, make: fn(u32, &mut Dice) -> Draft
     Sweep { name, cases, make }
 }
 
-pub const SWEEPS: [Sweep; 41] = [
+pub const SWEEPS: [Sweep; 43] = [
     sweep("register-values", 14 * 64, values::register_values),
     sweep("word-values", 10 * 64, values::word_values),
     sweep("halfword-loads", 24, values::halfword_loads),
@@ -79,6 +80,16 @@ pub const SWEEPS: [Sweep; 41] = [
     sweep("budgets", 7 * 6 * 3, runs::budgets),
     sweep("own-code", 12 * 8, runs::own_code),
     sweep("shared-frames", 120, fields::shared_frames),
+    sweep(
+        "marks-at-the-fetch",
+        marks::FETCH_CASES,
+        marks::at_the_fetch,
+    ),
+    sweep(
+        "marks-at-the-operands",
+        marks::OPERAND_CASES,
+        marks::at_the_operands,
+    ),
 ];
 
 const REGISTER_OPS: [u8; 14] = [

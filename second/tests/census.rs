@@ -1,9 +1,12 @@
 //! The generated sheets reach what they should.
 
-use second::census::{self, Census};
+use common::dice::Dice;
+use second::bad;
+use second::census::{self, Census, Way};
 use second::generate::Generator;
 use second::operations::{self as op, Form, Operation, OPERATIONS};
 use second::sheet;
+use second::sweeps::SWEEPS;
 
 /// How many sheets of a seed the two programs are given.
 const SHEETS: u64 = 25_000;
@@ -84,6 +87,64 @@ fn multiply_divide_and_signed_shifts_are_met_often() {
     }
 }
 
+/// The ways to be refused: number, bytes of the instruction (0 if nothing was
+/// fetched), halfwords fetched.
+fn ways() -> Vec<Way> {
+    let mut ways = Vec::new();
+    for number in [1, 3, 4] {
+        for (length, halfwords) in [(0, 0), (4, 1), (4, 2), (6, 1), (6, 2), (6, 3)] {
+            ways.push((number, length, halfwords));
+        }
+    }
+    ways.extend([(2, 0, 0), (2, 2, 1), (2, 4, 2)]);
+    ways.extend([(5, 2, 1), (5, 4, 1), (5, 6, 1)]);
+    ways.extend([(8, 2, 1), (8, 4, 2)]);
+    ways.sort_unstable();
+    ways
+}
+
+fn is_on_marks(label: &str) -> bool {
+    label.starts_with("marks-")
+}
+
+#[test]
+fn refusals_leave_marks_in_every_way() {
+    for seed in [1, 2] {
+        let mut census = Census::default();
+        for sweep in SWEEPS.iter().filter(|sweep| is_on_marks(sweep.name)) {
+            for case in 0..sweep.cases {
+                let dice = &mut Dice::for_one(seed, u64::from(case));
+                census.add(&(sweep.make)(case, dice).text());
+            }
+        }
+        assert_eq!(census.bad, 0);
+        assert!(census.marked.keys().copied().eq(ways()));
+        for (way, [none, one, two]) in &census.marked {
+            let (_, length, halfwords) = *way;
+            let counts = format!("{way:?}: {none}, {one}, {two}");
+            // A halfword over the end lies in one page with all after it.
+            let has_two = (length, halfwords) == (4, 2) || (length, halfwords) == (6, 3);
+            assert!(*none >= 6, "{counts}");
+            assert!(
+                halfwords > 0 && *one >= 6 || halfwords == 0 && *one == 0,
+                "{counts}"
+            );
+            assert!(has_two && *two >= 8 || !has_two && *two == 0, "{counts}");
+        }
+    }
+}
+
+#[test]
+fn some_sheets_in_a_hundred_are_on_the_marks_of_refusals() {
+    for seed in [1, 2] {
+        let mut generator = Generator::new(seed);
+        let labels = (0..SHEETS).map(|_| generator.make().label);
+        let on_marks = labels.filter(|label| is_on_marks(label)).count() as u64;
+        let in_a_thousand = on_marks * 1_000 / SHEETS;
+        assert!((50..80).contains(&in_a_thousand), "{on_marks} sheets");
+    }
+}
+
 #[test]
 fn the_same_seed_gives_the_same_sheets() {
     let mut first = Generator::new(7);
@@ -118,8 +179,9 @@ fn most_sheets_are_small_and_good_ones_are_plenty() {
     assert!(good > 3_500, "{good} good");
 }
 
-/// Six sheets of ten are cases of the sweeps.
+/// Of sixty sheets, forty are cases of the sweeps, and four are ways to be bad.
 #[test]
 fn the_sheets_of_a_seed_take_in_every_case_of_the_sweeps() {
-    assert!(Generator::new(0).sweep_cases() <= SHEETS * 6 / 10);
+    assert!(Generator::new(0).sweep_cases() <= SHEETS * 40 / 60);
+    assert!(bad::ways().len() as u64 <= SHEETS * 4 / 60);
 }

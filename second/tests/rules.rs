@@ -4,6 +4,8 @@ use common::dice::Dice;
 use second::generate::Generator;
 use second::machine::{Access, Machine, Run, G};
 use second::operations as op;
+use second::sheet::Sheet;
+use second::sweeps::SWEEPS;
 use second::{answer, set_up, sheet};
 
 #[test]
@@ -18,22 +20,44 @@ fn runs_stop_where_their_steps_do() {
             continue;
         }
         tried += 1;
-        let start = set_up(&sheet);
-        let mut by_run = start.clone();
-        let run = by_run.run(sheet.budget);
-        assert!(run.count <= sheet.budget);
-        let mut by_step = start.clone();
-        for _ in 0..run.count {
-            assert_eq!(by_step.step().number, 0);
-        }
-        if run.number == 7 {
-            assert_eq!((run.count, run.place), (sheet.budget, 0));
-        } else {
-            is_refused_again(&mut by_step, &run);
-        }
-        assert_eq!(by_run, by_step);
-        only_marks_came(&start, &by_run);
+        stops_where_its_steps_do(&sheet);
     }
+}
+
+/// The same for every case of the sweeps over marks.
+#[test]
+fn refused_steps_leave_the_marks_of_their_fetch() {
+    let mut tried = 0;
+    for sweep in SWEEPS
+        .iter()
+        .filter(|sweep| sweep.name.starts_with("marks-"))
+    {
+        for case in 0..sweep.cases {
+            let draft = (sweep.make)(case, &mut Dice::for_one(6, u64::from(case)));
+            let sheet = sheet::read(&draft.text()).expect("a good sheet");
+            stops_where_its_steps_do(&sheet);
+            tried += 1;
+        }
+    }
+    assert!(tried >= 1_500, "only {tried} cases");
+}
+
+fn stops_where_its_steps_do(sheet: &Sheet) {
+    let start = set_up(sheet);
+    let mut by_run = start.clone();
+    let run = by_run.run(sheet.budget);
+    assert!(run.count <= sheet.budget);
+    let mut by_step = start.clone();
+    for _ in 0..run.count {
+        assert_eq!(by_step.step().number, 0);
+    }
+    if run.number == 7 {
+        assert_eq!((run.count, run.place), (sheet.budget, 0));
+    } else {
+        is_refused_again(&mut by_step, &run);
+    }
+    assert_eq!(by_run, by_step);
+    only_marks_came(&start, &by_run);
 }
 
 /// The refused step sets G where it was fetched from, alters nothing else, and
