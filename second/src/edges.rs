@@ -1,9 +1,10 @@
 //! Calls at the edges: every limit of the door from both sides, the end of
-//! memory at each size, stores that are refused half way, and divisions and
-//! other work on register pairs that is refused at its end.
+//! memory at each size, stores that are refused half way, divisions and other
+//! work on register pairs that is refused at its end, and instructions that are
+//! fetched and then refused, or would be if the door or the budget let them.
 
 use crate::draft::{rr, rs, rx, si, ss};
-use crate::machine::{Machine, E, H, M, S, U};
+use crate::machine::{Machine, E, G, H, M, S, U, W};
 use crate::operations as op;
 use crate::probe::Case;
 
@@ -40,10 +41,19 @@ pub fn cases() -> Vec<Case> {
     let refused = memory_ends()
         .into_iter()
         .chain(stopped_half_way())
-        .chain(pairs_refused());
+        .chain(pairs_refused())
+        .chain(fetched_and_refused());
     for machine in refused {
         cases.push(Case::step(machine.clone()));
         cases.push(Case::run(machine, 3));
+    }
+    // No mark comes from an instruction that is not tried.
+    let over_the_end = |machine: &Machine| machine.counter == 0x00_AFFE;
+    for mut machine in fetched_and_refused().into_iter().filter(over_the_end) {
+        cases.push(Case::run(machine.clone(), 0));
+        cases.push(Case::run(machine.clone(), 65_536));
+        machine.code = 4;
+        cases.push(Case::step(machine));
     }
     cases.push(Case::run(endless(), 65_535));
     cases.push(Case::run(endless(), 65_534));
@@ -208,6 +218,43 @@ fn pairs_refused() -> Vec<Machine> {
     machines
 }
 
+/// Instructions in page 10, or over its end into page 11, that are refused when
+/// they are fetched or at any later point. Page 20 cannot be written, and page
+/// 21 is absent; page 11 lies past memory in the smaller of the two sizes.
+fn fetched_and_refused() -> Vec<Machine> {
+    let programs = [
+        vec![0xFA, 0x00],
+        rr(op::DR, 6, 5),
+        rx(op::LA, 1, 0, 0, 5),
+        rx(op::ST, 1, 0, 3, 0x100),
+        rx(op::L, 1, 0, 3, 0x102),
+        rx(op::M, 7, 0, 3, 0x100),
+        rx(op::D, 6, 0, 3, 0x100),
+        ss(op::MVC, 7, 2, 0x200, 3, 0xFFC),
+        ss(op::CLC, 7, 3, 0xFFC, 2, 0x200),
+    ];
+    let mut machines = Vec::new();
+    for program in programs {
+        for offset in [0, 0xFFC, 0xFFE] {
+            for word in [OPEN, OPEN | W, S | G] {
+                for size in [4_096, 8_192] {
+                    let mut machine = with_program(size, &[]);
+                    for (place, byte) in machine.memory[offset..].iter_mut().zip(&program) {
+                        *place = *byte;
+                    }
+                    machine.counter += offset as u32;
+                    machine.registers[3] = 0x01_4000;
+                    machine.map[10] |= word & W;
+                    machine.map[11] = word | 1;
+                    machine.map[20] = OPEN | E;
+                    machines.push(machine);
+                }
+            }
+        }
+    }
+    machines
+}
+
 fn fields(program: &[u8], words: [u16; 3]) -> Machine {
     let mut machine = with_program(65_536, program);
     machine.registers[3] = 0x01_4000;
@@ -229,4 +276,24 @@ fn fields(program: &[u8], words: [u16; 3]) -> Machine {
 /// A branch to itself.
 fn endless() -> Machine {
     with_program(4_096, &rx(op::BC, 15, 0, 2, 0))
+}
+
+#[cfg(test)]
+mod tests {
+    use super::*;
+
+    #[test]
+    fn what_is_fetched_is_refused_in_every_way() {
+        let mut numbers = [0; 9];
+        for machine in fetched_and_refused() {
+            let mut after = machine.clone();
+            let number = after.step().number as usize;
+            numbers[number] += 1;
+            let marked = (0..512).filter(|&page| after.map[page] != machine.map[page]);
+            assert!((1..=2).contains(&marked.count()));
+        }
+        for number in [0, 1, 2, 3, 4, 5, 8] {
+            assert!(numbers[number] >= 4, "{number}: {}", numbers[number]);
+        }
+    }
 }
