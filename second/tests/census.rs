@@ -118,19 +118,24 @@ fn refusals_leave_marks_in_every_way() {
             }
         }
         assert_eq!(census.bad, 0);
-        assert!(census.marked.keys().copied().eq(ways()));
-        for (way, [none, one, two]) in &census.marked {
-            let (_, length, halfwords) = *way;
-            let counts = format!("{way:?}: {none}, {one}, {two}");
-            // A halfword over the end lies in one page with all after it.
-            let has_two = (length, halfwords) == (4, 2) || (length, halfwords) == (6, 3);
-            assert!(*none >= 6, "{counts}");
-            assert!(
-                halfwords > 0 && *one >= 6 || halfwords == 0 && *one == 0,
-                "{counts}"
-            );
-            assert!(has_two && *two >= 8 || !has_two && *two == 0, "{counts}");
-        }
+        leaves_marks(&census);
+        leaves_marks(&census::take(seed, SHEETS));
+    }
+}
+
+/// In each way to be refused, each number of pages is marked anew that can be.
+fn leaves_marks(census: &Census) {
+    assert!(census.marked.keys().copied().eq(ways()));
+    for (way, [none, one, two]) in &census.marked {
+        let (_, length, halfwords) = *way;
+        let counts = format!("{way:?}: {none}, {one}, {two}");
+        let has_one = halfwords > 0;
+        // Fetched from two pages only if fetched whole: of the halfwords in the
+        // second page, the first is refused or none.
+        let has_two = halfwords > 1 && 2 * halfwords == length as usize;
+        assert!(*none >= 6, "{counts}");
+        assert!(has_one && *one >= 6 || !has_one && *one == 0, "{counts}");
+        assert!(has_two && *two >= 6 || !has_two && *two == 0, "{counts}");
     }
 }
 

@@ -4,13 +4,16 @@
 
 use super::{BOUND, MEMORY_OPS};
 use crate::draft::{rr, rs, rx, ss, Draft};
-use crate::machine::{E, FRAME, G, H, M, S, U, W};
+use crate::machine::{ADDRESSING, E, FRAME, G, H, M, PAGING_ERROR, PAGING_QUEUE, S, U, W};
 use crate::operations::{self as op, OPERATIONS};
 use crate::scene::{Scene, OPEN};
 use common::dice::Dice;
 
 /// Every setting of the marks.
 const MARKS: [u16; 4] = [0, G, W, W | G];
+
+/// What a look-up can be refused with.
+const NUMBERS: [u32; 3] = [ADDRESSING, PAGING_QUEUE, PAGING_ERROR];
 
 /// The first halfword of 2, 4 and 6 bytes, the second of 4 and 6, the third.
 const HALFWORDS: [(u32, u32); 6] = [(2, 0), (4, 0), (6, 0), (4, 2), (6, 2), (6, 4)];
@@ -90,7 +93,8 @@ fn outside_the_set(scene: &mut Scene, dice: &mut Dice, way: u32) -> (u32, Vec<u8
         }
         1 => 0xFFE,
         _ => {
-            close_somehow(scene, dice, scene.code_page + 1);
+            let number = dice.pick(&NUMBERS);
+            close_for(scene, dice, scene.code_page + 1, number);
             0xFFE
         }
     };
@@ -139,9 +143,13 @@ fn close(scene: &mut Scene, dice: &mut Dice, page: u32, kind: u32) {
     scene.draft.page(page, word);
 }
 
-/// The same; 1, 3 and 4 come up alike.
-fn close_somehow(scene: &mut Scene, dice: &mut Dice, page: u32) {
-    let kind = dice.pick(&[0, 4, 1, 2, 3, 3]);
+/// Closes a page so that one of the three numbers comes of it.
+fn close_for(scene: &mut Scene, dice: &mut Dice, page: u32, number: u32) {
+    let kind = match number {
+        ADDRESSING => 3,
+        PAGING_QUEUE => dice.pick(&[0, 4]),
+        _ => dice.pick(&[1, 2]),
+    };
     close(scene, dice, page, kind);
 }
 
@@ -209,23 +217,27 @@ struct Stage {
     has_two: bool,
     /// The page of what is found of its operands.
     home: u32,
+    /// What a look-up is to be refused with, where there is a choice.
+    number: u32,
 }
 
 /// Refused after it was fetched.
 pub fn at_the_operands(case: u32, dice: &mut Dice) -> Draft {
     let mut scene = Scene::new(dice);
     mark_pages(&mut scene, dice, MARKS[(case % 4) as usize]);
-    let way = case / 96;
+    let [lead, cut, home, way] = [case / 4 % 2, case / 8 % 3, case / 24 % 4, case / 96];
     let length = [2, 4, 4, 4, 4, 4, 6, 6, 6, 6, 2, 4][way as usize];
-    let offset = spot(&mut scene, dice, length, case / 8 % 3);
+    let offset = spot(&mut scene, dice, length, cut);
     let mut stage = Stage {
         at: scene.code_at(offset),
         has_two: offset + length > 4_096,
-        home: match case / 24 % 4 {
+        home: match home {
             0 => scene.code_page,
             1 => scene.code_page + 1,
             _ => scene.data_page,
         },
+        // Each number comes with and without marks.
+        number: NUMBERS[((case % 4 + 2 * lead + cut + home) % 3) as usize],
         scene,
     };
     let text = match way {
@@ -238,7 +250,7 @@ pub fn at_the_operands(case: u32, dice: &mut Dice) -> Draft {
         10 => bad_quotient(&mut stage, dice, op::DR),
         _ => bad_quotient(&mut stage, dice, op::D),
     };
-    finish(stage.scene, dice, stage.at, text, case / 4 % 2 == 1)
+    finish(stage.scene, dice, stage.at, text, lead == 1)
 }
 
 /// Where the instruction lies: all of it in one page, or over the end of it after
@@ -290,7 +302,7 @@ impl Stage {
         if self.is_own() {
             return dice.pick(&[0x20_0000, 0x20_0200, 0xFF_FFF8]);
         }
-        close_somehow(&mut self.scene, dice, self.home);
+        close_for(&mut self.scene, dice, self.home, self.number);
         self.home_at(512)
     }
 
@@ -310,7 +322,7 @@ impl Stage {
             self.scene.draft.page(next, word | E);
         } else {
             self.scene.draft.page(next, word);
-            close_somehow(&mut self.scene, dice, next);
+            close_for(&mut self.scene, dice, next, self.number);
         }
         self.home_at(4_096)
     }
@@ -393,7 +405,7 @@ fn second_field(stage: &mut Stage, dice: &mut Dice, later: bool) -> Vec<u8> {
     // Page after page: the first is found, the second refused.
     let edge = stage.scene.data_at(4_096);
     let closed = stage.scene.data_page + 1;
-    close_somehow(&mut stage.scene, dice, closed);
+    close_for(&mut stage.scene, dice, closed, stage.number);
     let found = if later { 1 + dice.below(12) } else { 0 };
     let length = found + dice.below(12);
     two_fields(stage, dice, (code, length), first, edge - found)
