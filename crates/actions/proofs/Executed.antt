@@ -16,6 +16,7 @@ use Rattle.machine.specs.Prog.{Prog, done, fail, look, Answer, finished, refuse
 use Rattle.machine.specs.Run.{one}
 use Rattle.machine.specs.Fields.{looks, gets, puts, moves, compares, aligned, bytesOf}
 use Rattle.machine.specs.Store.{framed}
+use Rattle.machine.proofs.Operands.{ForOperand}
 use Rattle.machine.specs.Cpu.{Cpu, reg, withRes, onward, ahead}
 use Rattle.machine.specs.Rr.{rr}
 use Rattle.machine.specs.Rx.{widthOf, taken}
@@ -76,14 +77,14 @@ module _ (regs : List ℕ) (c : Now) (mem map : List ℕ) where
         stops regs c 2 a (aligned w a (looks acc a m k)) (framedOf mem map)
         (ap (λ (p : Prog Cpu). interp framed p (framedOf mem map) (framedOf mem map)) (off-boundary w a (looks acc a m k) h))
 
-    module _ (h : a % w ≡ 0) (found : Look) (e : found ≡ lookOne map (length mem) acc a m) where
+    module _ (op : ForOperand acc) (h : a % w ≡ 0) (found : Look) (e : found ≡ lookOne map (length mem) acc a m) where
       pub operand-stop : (out : Out) (d : Cause) (b : ℕ) → 0 < m → out ≡ refusalOf found → found ≡ Refused d b
           → told out regs c (framedOf mem map)
           ≡ one (cpuOf regs c) (interp framed (aligned w a (looks acc a m k)) (framedOf mem map) (framedOf mem map))
       operand-stop out d b l eo ef =
           hands-on regs c (aligned w a (looks acc a m k)) (framedOf mem map) found out d b eo ef
           (ap (λ (p : Prog Cpu). interp framed p (framedOf mem map) (framedOf mem map)) (on-boundary w a (looks acc a m k) h)
-          ∙ one-stop acc a m k mem map (framedOf mem map) d b (sym e ∙ ef) l)
+          ∙ one-stop acc op a m k mem map (framedOf mem map) d b (sym e ∙ ef) l)
 
       -- found, what comes after the look-ups decides
       pub operand-comes : (r : ℕ) (map′ : List ℕ) (x : Answer Cpu Framed) → found ≡ At r → map′ ≡ noteField map a m
@@ -91,7 +92,7 @@ module _ (regs : List ℕ) (c : Now) (mem map : List ℕ) where
           → interp framed (aligned w a (looks acc a m k)) (framedOf mem map) (framedOf mem map) ≡ x
       operand-comes r map′ x ef em ek =
           ap (λ (p : Prog Cpu). interp framed p (framedOf mem map) (framedOf mem map)) (on-boundary w a (looks acc a m k) h)
-          ∙ one-go acc a m k mem map (framedOf mem map) r (sym e ∙ ef)
+          ∙ one-go acc op a m k mem map (framedOf mem map) r (sym e ∙ ef)
           ∙ ap (λ (y : List ℕ). interp framed k (framedOf mem map) (framedOf mem y)) (sym em)
           ∙ ek
 
@@ -102,7 +103,7 @@ module _ (regs : List ℕ) (c : Now) (mem map : List ℕ) where
       operand-go r map′ regs′ t next ef em ek =
           ends regs regs′ c next (aligned w a (looks acc a m k)) (framedOf mem map) t (operand-comes r map′ _ ef em ek)
 
-      -- refused after all, by what comes after the look-ups: no mark is left
+      -- refused after all, by what comes after the look-ups: the operand's mark is not kept
       pub operand-refused : (r : ℕ) (map′ : List ℕ) (n b : ℕ) → found ≡ At r → map′ ≡ noteField map a m
           → interp framed k (framedOf mem map) (framedOf mem map′) ≡ refused n b (framedOf mem map)
           → told (Stop n b) regs c (framedOf mem map)
@@ -111,30 +112,30 @@ module _ (regs : List ℕ) (c : Now) (mem map : List ℕ) where
           stops regs c n b (aligned w a (looks acc a m k)) (framedOf mem map) (operand-comes r map′ _ ef em ek)
 
   -- one byte
-  module _ (acc : Access) (a : ℕ) (k : Prog Cpu) (found : Look) (e : found ≡ lookOf map (length mem) acc a) where
+  module _ (acc : Access) (op : ForOperand acc) (a : ℕ) (k : Prog Cpu) (found : Look) (e : found ≡ lookOf map (length mem) acc a) where
     pub byte-no : (out : Out) (d : Cause) (b : ℕ) → out ≡ refusalOf found → found ≡ Refused d b
         → told out regs c (framedOf mem map) ≡ one (cpuOf regs c) (interp framed (look acc a k) (framedOf mem map) (framedOf mem map))
     byte-no out d b eo ef =
         hands-on regs c (look acc a k) (framedOf mem map) found out d b eo ef
-        (byte-stop acc a k mem map (framedOf mem map) d b (sym e ∙ ef))
+        (byte-stop acc op a k mem map (framedOf mem map) d b (sym e ∙ ef))
 
     pub byte-yes : (r : ℕ) (map′ : List ℕ) (t : Framed) (next : Now) → found ≡ At r → map′ ≡ accessedAt map a
         → interp framed k (framedOf mem map) (framedOf mem map′) ≡ finished (cpuOf regs next) t
         → told (Done next) regs c t ≡ one (cpuOf regs c) (interp framed (look acc a k) (framedOf mem map) (framedOf mem map))
     byte-yes r map′ t next ef em ek =
         ends regs regs c next (look acc a k) (framedOf mem map) t
-        (byte-go acc a k mem map (framedOf mem map) r (sym e ∙ ef)
+        (byte-go acc op a k mem map (framedOf mem map) r (sym e ∙ ef)
         ∙ ap (λ (m : List ℕ). interp framed k (framedOf mem map) (framedOf mem m)) (sym em)
         ∙ ek)
 
   -- two fields
-  module _ (f g : Field) (k : Prog Cpu) (h : 0 < f .len) (found : Look) (e : found ≡ lookFields map (length mem) (f ∷ g ∷ []) (lookOf map (length mem) (f .access) (f .at))) where
+  module _ (f g : Field) (op : ForOperand (f .access)) (op′ : ForOperand (g .access)) (k : Prog Cpu) (h : 0 < f .len) (found : Look) (e : found ≡ lookFields map (length mem) (f ∷ g ∷ []) (lookOf map (length mem) (f .access) (f .at))) where
     pub two-no : (out : Out) (d : Cause) (b : ℕ) → out ≡ refusalOf found → found ≡ Refused d b
         → told out regs c (framedOf mem map)
         ≡ one (cpuOf regs c) (interp framed (looks (f .access) (f .at) (f .len) (looks (g .access) (g .at) (g .len) k)) (framedOf mem map) (framedOf mem map))
     two-no out d b eo ef =
         hands-on regs c (looks (f .access) (f .at) (f .len) (looks (g .access) (g .at) (g .len) k)) (framedOf mem map) found out d b eo ef
-        (two-is f g k mem map (framedOf mem map) h found e ∙ rw ef)
+        (two-is f g op op′ k mem map (framedOf mem map) h found e ∙ rw ef)
 
     pub two-yes : (r : ℕ) (map′ map″ : List ℕ) (t : Framed) (next : Now) → found ≡ At r
         → map′ ≡ noteField map (f .at) (f .len) → map″ ≡ noteField map′ (g .at) (g .len)
@@ -143,7 +144,7 @@ module _ (regs : List ℕ) (c : Now) (mem map : List ℕ) where
         ≡ one (cpuOf regs c) (interp framed (looks (f .access) (f .at) (f .len) (looks (g .access) (g .at) (g .len) k)) (framedOf mem map) (framedOf mem map))
     two-yes r map′ map″ t next ef em en ek =
         ends regs regs c next (looks (f .access) (f .at) (f .len) (looks (g .access) (g .at) (g .len) k)) (framedOf mem map) t
-        (two-is f g k mem map (framedOf mem map) h found e
+        (two-is f g op op′ k mem map (framedOf mem map) h found e
         ∙ rw ef
         (ap (λ (m : List ℕ). interp framed k (framedOf mem map) (framedOf mem (noteField m (g .at) (g .len)))) (sym em)
         ∙ ap (λ (m : List ℕ). interp framed k (framedOf mem map) (framedOf mem m)) (sym en)

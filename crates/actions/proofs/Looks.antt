@@ -1,4 +1,4 @@
--- A program that begins by looking fields up: what it comes to, by the answer of the field look-up.
+-- A program that begins by looking operands up: what it comes to, by the answer of the field look-up.
 use Prim.Native.Nat.{ℕ, zero, suc, _<_, _%_}
 use native.Mathlib.Omega.{arith}
 use mathlib.Core.Path.{_≡_, refl, sym, _∙_, ap}
@@ -20,7 +20,7 @@ use Rattle.pages.proofs.LookLaws.{refused-place}
 use Rattle.machine.specs.Prog.{Prog, fail, look, Answer, refused, interp}
 use Rattle.machine.specs.Fields.{looks, aligned}
 use Rattle.machine.specs.Store.{framed}
-use Rattle.machine.proofs.MarksLast.{blind}
+use Rattle.machine.proofs.Operands.{ForOperand, keeps-none}
 use Rattle.fields.specs.declared.Field.{Field}
 use Rattle.fields.specs.Direct.{orElse, lookField, lookFields, lookOne, noteField}
 use Rattle.fields.proofs.Bridge.{afterLook, notedField, looks-is, field-blind}
@@ -50,11 +50,11 @@ first-found map size acc a (suc n) rest r h e = go (lookOf map size acc a) refl 
     go (At x) k e = (x, k)
     go (Refused c p) k e = absurd (let z : _≡_ {A = ℕ} 0 1 = cc in omega arith)
 
-module _ {R : Type 0} (acc : Access) (a n : ℕ) (k : Prog R) (mem map : List ℕ) (kept : Framed) where
+module _ {R : Type 0} (acc : Access) (op : ForOperand acc) (a n : ℕ) (k : Prog R) (mem map : List ℕ) (kept : Framed) where
   pub one-stop : (c : Cause) (p : ℕ) → lookOne map (length mem) acc a n ≡ Refused c p → 0 < n
       → interp framed (looks acc a n k) kept (framedOf mem map) ≡ refused (numberOf c) p kept
   unfolding lookOne
-  one-stop c p e h = looks-is acc a n k kept (framedOf mem map) 0 ∙ go (lookField map (length mem) acc a n (At 0)) refl
+  one-stop c p e h = looks-is acc op a n k kept (framedOf mem map) 0 ∙ go (lookField map (length mem) acc a n (At 0)) refl
     where
       go : (l : Look) → lookField map (length mem) acc a n (At 0) ≡ l
           → afterLook l (λ t. interp framed k kept t) (framedOf mem (noteField map a n)) kept ≡ refused (numberOf c) p kept
@@ -71,7 +71,7 @@ module _ {R : Type 0} (acc : Access) (a n : ℕ) (k : Prog R) (mem map : List �
   pub one-go : (r : ℕ) → lookOne map (length mem) acc a n ≡ At r
       → interp framed (looks acc a n k) kept (framedOf mem map) ≡ interp framed k kept (framedOf mem (noteField map a n))
   unfolding lookOne
-  one-go r e = looks-is acc a n k kept (framedOf mem map) 0 ∙ go (lookField map (length mem) acc a n (At 0)) refl
+  one-go r e = looks-is acc op a n k kept (framedOf mem map) 0 ∙ go (lookField map (length mem) acc a n (At 0)) refl
     where
       go : (l : Look) → lookField map (length mem) acc a n (At 0) ≡ l
           → afterLook l (λ t. interp framed k kept t) (framedOf mem (noteField map a n)) kept ≡ interp framed k kept (framedOf mem (noteField map a n))
@@ -81,7 +81,7 @@ module _ {R : Type 0} (acc : Access) (a n : ℕ) (k : Prog R) (mem map : List �
           absurd (let z : _≡_ {A = ℕ} 0 1 = cc in omega arith)
 
 -- a single byte
-module _ {R : Type 0} (acc : Access) (a : ℕ) (k : Prog R) (mem map : List ℕ) (kept : Framed) where
+module _ {R : Type 0} (acc : Access) (op : ForOperand acc) (a : ℕ) (k : Prog R) (mem map : List ℕ) (kept : Framed) where
   pub byte-stop : (c : Cause) (p : ℕ) → lookOf map (length mem) acc a ≡ Refused c p
       → interp framed (look acc a k) kept (framedOf mem map) ≡ refused (numberOf c) p kept
   unfolding interp
@@ -91,7 +91,7 @@ module _ {R : Type 0} (acc : Access) (a : ℕ) (k : Prog R) (mem map : List ℕ)
   pub byte-go : (r : ℕ) → lookOf map (length mem) acc a ≡ At r
       → interp framed (look acc a k) kept (framedOf mem map) ≡ interp framed k kept (framedOf mem (accessedAt map a))
   unfolding interp
-  byte-go r e = rw e
+  byte-go r e = rw (keeps-none framed acc op a kept, e)
 
 -- marks of a whole field are not seen either
 pub marked-blind : (mem map : List ℕ) (b m : ℕ) (acc : Access) (a n : ℕ) (rest : Look)
@@ -102,13 +102,13 @@ marked-blind mem map b (suc m) acc a n rest =
     marked-blind mem (accessedAt map b) (next b) m acc a n rest ∙ field-blind (framedOf mem map) b acc a n rest
 
 -- two fields
-module _ {R : Type 0} (f g : Field) (k : Prog R) (mem map : List ℕ) (kept : Framed) (h : 0 < f .len) where
+module _ {R : Type 0} (f g : Field) (op : ForOperand (f .access)) (op′ : ForOperand (g .access)) (k : Prog R) (mem map : List ℕ) (kept : Framed) (h : 0 < f .len) where
   pub two-is : (found : Look) → found ≡ lookFields map (length mem) (f ∷ g ∷ []) (lookOf map (length mem) (f .access) (f .at))
       → interp framed (looks (f .access) (f .at) (f .len) (looks (g .access) (g .at) (g .len) k)) kept (framedOf mem map)
       ≡ afterLook found (λ t. interp framed k kept t) (framedOf mem (noteField (noteField map (f .at) (f .len)) (g .at) (g .len))) kept
   unfolding lookFields
   two-is found e =
-      looks-is (f .access) (f .at) (f .len) (looks (g .access) (g .at) (g .len) k) kept (framedOf mem map) 0
+      looks-is (f .access) op (f .at) (f .len) (looks (g .access) (g .at) (g .len) k) kept (framedOf mem map) 0
       ∙ first (lookField map (length mem) (f .access) (f .at) (f .len) (At 0)) refl
       ∙ sym (ap (λ (l : Look). afterLook l (λ t. interp framed k kept t) (framedOf mem (noteField (noteField map (f .at) (f .len)) (g .at) (g .len))) kept)
       (e ∙ field-cases map (length mem) (f .access) (f .at) (f .len) (lookField map (length mem) (g .access) (g .at) (g .len) (lookOf map (length mem) (f .access) (f .at))) 0))
@@ -126,7 +126,7 @@ module _ {R : Type 0} (f g : Field) (k : Prog R) (mem map : List ℕ) (kept : Fr
       first (Refused c p) q = refl
       first (At x) q =
           let t = first-found map (length mem) (f .access) (f .at) (f .len) (At 0) x h q in
-          looks-is (g .access) (g .at) (g .len) k kept (framedOf mem (noteField map (f .at) (f .len))) 0
+          looks-is (g .access) op′ (g .at) (g .len) k kept (framedOf mem (noteField map (f .at) (f .len))) 0
           ∙ ap (λ (l : Look). afterLook l (λ u. interp framed k kept u) (framedOf mem (noteField (noteField map (f .at) (f .len)) (g .at) (g .len))) kept)
           (marked-blind mem map (f .at) (f .len) (g .access) (g .at) (g .len) (At 0))
           ∙ second (t .0) (lookField map (length mem) (g .access) (g .at) (g .len) (At 0)) (t .1) refl

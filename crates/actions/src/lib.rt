@@ -24,7 +24,8 @@ pub enum Out {
     Stop(u32, u32),
 }
 
-fn number_of(cause: Cause) -> u32
+// Document 01's number for a cause.
+pub fn number_of(cause: Cause) -> u32
     ensures { λ r. ⌜ r ≡ numberOf cause ⌝ }
 {
     match cause {

@@ -3,6 +3,7 @@
 use Prim.Native.Nat.{ℕ, zero, suc}
 use mathlib.Core.Path.{_≡_, refl, sym, ap, subst}
 use Rattle.pages.specs.declared.Access.{Access}
+use Rattle.pages.specs.declared.Access.the-variants.{Fetch, Load, Store}
 use Rattle.pages.specs.Tests.{Verdict, fine, bad}
 use Rattle.machine.specs.Prog.{Prog, done, fail, look, get, put, Ops, Answer, finished, refused, keeps, after, interp}
 use Rattle.machine.specs.Run.{Result, one, oneMore, afterStep, run}
@@ -38,7 +39,9 @@ module _ {S S′ : Type 0} (Rel : S → S′ → Type 0) where
   module _ {o : Ops S} {o′ : Ops S′} (L : Laws o o′ Rel) where
     -- what a refusal keeps of a look stays related
     keeps-alike : (acc : Access) (a : ℕ) (k : S) (k′ : S′) → Rel k k′ → Rel (keeps o acc a k) (keeps o′ acc a k′)
-    keeps-alike acc a k k′ h = h
+    keeps-alike Fetch a k k′ h = L .noted k k′ Fetch a h
+    keeps-alike Load a k k′ h = h
+    keeps-alike Store a k k′ h = h
 
     pub agree : {R : Type 0} (p : Prog R) (k s : S) (k′ s′ : S′) → Rel k k′ → Rel s s′
         → Agree Rel (interp o p k s) (interp o′ p k′ s′)

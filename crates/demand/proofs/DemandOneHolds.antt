@@ -5,20 +5,25 @@ use mathlib.Core.Path.{_≡_, refl, sym, _∙_, ap, subst}
 use mathlib.Core.Logic.{_≢_, _⊎_, inl, inr}
 use mathlib.Core.Bool.{Bool, true, false}
 use borrow.Author.Tests.{eqb-true, leb-true, ltb-true, eq-eqb, le-leb, lt-ltb}
+use mathlib.Core.List.{List}
 use lib.Dec.{eqb, leb}
 use lib.ListN.{length, length-set}
 use Rattle.words.specs.Pick.{pick, both}
 use Rattle.words.proofs.Tests.{both-true}
 use Rattle.pages.specs.Word.{pageOf}
-use Rattle.pages.specs.Framed.{Framed, accessedAt, writtenAt}
+use Rattle.pages.specs.Framed.{Framed, framedOf, accessedAt, writtenAt}
 use Rattle.machine.specs.Prog.{Answer, finished, refused, interp}
 use Rattle.machine.specs.Run.{Result, one, oneMore, afterStep, run}
 use Rattle.machine.specs.Store.{framed}
 use Rattle.machine.specs.Cpu.{Cpu}
 use Rattle.machine.specs.Step.{step}
+use Rattle.machine.proofs.MarksLast.{onStore}
 use Rattle.machine.specs.Machine.{Given, Outcome, proper, turnedAway, cpuIn, storeIn, outcomeOf, opsFor, stepOutcome, runOutcome}
-use Rattle.demand.specs.DemandOne.{Refusal, handed, refusedAt, CleanStep, CleanRun, StepsAreClean, RunsAreClean}
-use Rattle.demand.proofs.StepEnds.{Sound, Came, came, step-ends}
+use Rattle.demand.specs.FetchedFrom.{fetchedIn, leftBy}
+use Rattle.demand.specs.DemandOne.{Refusal, handed, before, refusedAt, CleanStep, CleanRun, StepsAreClean, RunsAreClean}
+use Rattle.demand.proofs.ActionEnds.{Sound, Came}
+use Rattle.demand.proofs.StepLeaves.{marked, step-leaves}
+use Rattle.demand.proofs.MarkedPages.{marked-again, late-all}
 use Rattle.demand.proofs.KeptByRuns.{Keeps, run-keeps, step-keeps, writes-keep}
 use Rattle.demand.proofs.RunsInParts.{count-most}
 
@@ -78,9 +83,12 @@ module _ (g : Given) where
       (true-both _ _ (b .1)
       (true-both _ _ (lt-ltb _ _ (s .pc)) (true-both _ _ (lt-ltb _ _ (s .code)) (lt-ltb _ _ (s .mask))))))))
 
--- what a step came to
-came-to : (c : Cpu) (s : Framed) → Sound c → Came Sound s (interp framed (step c) s s)
-came-to c s h = came framed Sound s (step c) s (step-ends c h)
+-- a memory of whole pages has an even number of bytes
+abbrev Even : Framed → Type 0
+Even s = length (s .mem) % 2 ≡ 0
+
+even-pages : (m : ℕ) → fits m ≡ true → m % 2 ≡ 0
+even-pages m h = omega (arith, eqb-true (m % 4096) 0 (both-true (eqb (m % 4096) 0) (both (leb 4096 m) (leb m 262144)) h .0))
 
 -- no refusal has the number of another end
 refusal-apart : (n : ℕ) → Refusal n → (n ≢ 0) × (n ≢ 6) × (n ≢ 7)
@@ -98,17 +106,18 @@ still-proper g r p s l =
 abbrev stepped : Given → Answer Cpu Framed → Outcome
 stepped g x = outcomeOf (one (cpuIn g) x)
 
-clean-step : (g : Given) (x : Answer Cpu Framed) → proper g ≡ true → Came Sound (storeIn g) x
+clean-step : (g : Given) (x : Answer Cpu Framed) → proper g ≡ true → Came Sound (marked (storeIn g) (fetchedIn (storeIn g) (cpuIn g))) x
     → Long (length (g .mem)) (length (g .map)) ((one (cpuIn g) x) .held) → Sound (cpuIn g) → CleanStep g (stepped g x)
+unfolding leftBy
 clean-step g (finished d t) p h l s =
     record {
       number = inl refl;
       six = λ e. absurd (omega (arith, e));
       always-six = λ e. absurd (let z : _≡_ {A = ℕ} 0 1 = cc in omega arith);
-      trace = λ e. absurd (e refl);
+      away = λ e. absurd (omega (arith, e));
+      trace = λ e. absurd (refusal-apart 0 e .0 refl);
       completed = λ e. (refl, refl);
       uncounted = λ e. absurd (e refl);
-      away = λ e. refl;
       again = λ e. still-proper g (one (cpuIn g) (finished d t)) p h l;
     }
 clean-step g (refused n a t) p h l s =
@@ -116,10 +125,10 @@ clean-step g (refused n a t) p h l s =
       number = inr (inl (h .0));
       six = λ e. absurd (refusal-apart n (h .0) .1 e);
       always-six = λ e. absurd (let z : _≡_ {A = ℕ} 0 1 = cc in omega arith);
+      away = λ e. absurd (refusal-apart n (h .0) .1 e);
       trace = λ e. ap (λ (u : Framed). handed (stepped g (refused n a u))) (h .1);
       completed = λ e. absurd (refusal-apart n (h .0) .0 e);
       uncounted = λ e. refl;
-      away = λ e. absurd (refusal-apart n (h .0) .1 e);
       again = λ e. still-proper g (one (cpuIn g) (refused n a t)) p s l;
     }
 
@@ -129,10 +138,10 @@ away-step g p =
       number = inr (inr refl);
       six = λ e. p;
       always-six = λ e. refl;
-      trace = λ e. refl;
+      away = λ e. (refl, refl);
+      trace = λ e. absurd (refusal-apart 6 e .1 refl);
       completed = λ e. absurd (omega (arith, e));
       uncounted = λ e. refl;
-      away = λ e. refl;
       again = λ e. e;
     }
 
@@ -146,84 +155,98 @@ steps-are-clean g = go (proper g) refl
     go : (b : Bool) → proper g ≡ b → CleanStep g (pick b (stepped g x) (turnedAway g))
     go true p =
         let s = proper-parts g p .0 in
-        clean-step g x p (came-to (cpuIn g) (storeIn g) s)
+        clean-step g x p (step-leaves (cpuIn g) (storeIn g) s (even-pages (length (g .mem)) (proper-parts g p .2)))
         (step-keeps opsFor (Long (length (g .mem)) (length (g .map))) (λ c. long-kept (length (g .mem)) (length (g .map))) step (cpuIn g) (storeIn g) (record { mem = refl; map = refl }))
         s
     go false p = away-step g p
 
--- how a run ended: the budget spent, or budget left and the next step refused, the store as it was
-pub data Ended (b : ℕ) (r : Result Cpu Framed) : Type 0 where
-  spent : r .stop ≡ 7 → r .place ≡ 0 → r .count ≡ b → Ended b r
-  stopped : r .count < b → Refusal (r .stop)
-      → interp framed (step (r .cpu)) (r .held) (r .held) ≡ refused (r .stop) (r .place) (r .held) → Ended b r
+-- how a run ended, s being the store after the steps that it completed: the budget spent, or budget left and the next step refused
+pub data Ended (b : ℕ) (s : Framed) (r : Result Cpu Framed) : Type 0 where
+  spent : r .stop ≡ 7 → r .place ≡ 0 → r .count ≡ b → r .held ≡ s → Ended b s r
+  stopped : r .count < b → Refusal (r .stop) → interp framed (step (r .cpu)) s s ≡ refused (r .stop) (r .place) (r .held) → Ended b s r
 
--- the result of the run of just the steps that it completed
-abbrev atCount : Result Cpu Framed → Result Cpu Framed
-atCount r = record { stop = 7; place = 0; count = r .count; cpu = r .cpu; held = r .held }
+-- the result of the run of just those steps
+abbrev atCount : Result Cpu Framed → Framed → Result Cpu Framed
+atCount r s = record { stop = 7; place = 0; count = r .count; cpu = r .cpu; held = s }
 
 pub record Told (b : ℕ) (c : Cpu) (s : Framed) (r : Result Cpu Framed) : Type 0 where
-  pub ended : Ended b r
+  pub store : Framed
+  pub ended : Ended b store r
   pub sound : Sound (r .cpu)
-  pub named : run opsFor step (r .count) c s ≡ atCount r
+  pub named : run opsFor step (r .count) c s ≡ atCount r store
 
-one-more : (b : ℕ) (r : Result Cpu Framed) → Ended b r → Ended (suc b) (oneMore r)
-one-more b r (spent e f l) = spent e f (ap suc l)
-one-more b r (stopped l n e) = stopped (omega (arith, l)) n e
+one-more : (b : ℕ) (s : Framed) (r : Result Cpu Framed) → Ended b s r → Ended (suc b) s (oneMore r)
+one-more b s r (spent e f l k) = spent e f (ap suc l) k
+one-more b s r (stopped l n e) = stopped (omega (arith, l)) n e
 
-told-after : (b : ℕ) (c : Cpu) (s : Framed) (x : Answer Cpu Framed) → interp framed (step c) s s ≡ x → Sound c → Came Sound s x
-    → ((d : Cpu) (t : Framed) → Sound d → Told b d t (run opsFor step b d t))
+told-after : (b : ℕ) (c : Cpu) (s kept : Framed) (x : Answer Cpu Framed) → interp framed (step c) s s ≡ x → Sound c → Came Sound kept x
+    → Even ((one c x) .held)
+    → ((d : Cpu) (t : Framed) → Sound d → Even t → Told b d t (run opsFor step b d t))
     → Told (suc b) c s (afterStep c x (λ d t. run opsFor step b d t))
 unfolding run
-told-after b c s (finished d t) e h k rest =
+told-after b c s kept (finished d t) e h k v rest =
     let r = run opsFor step b d t in
-    let q = rest d t k in
+    let q = rest d t k v in
     record {
-      ended = one-more b r (q .ended);
+      store = q .store;
+      ended = one-more b (q .store) r (q .ended);
       sound = q .sound;
       named =
           ap (λ (x : Answer Cpu Framed). afterStep c x (λ d′ t′. run opsFor step (r .count) d′ t′)) e
           ∙ ap oneMore (q .named);
     }
-told-after b c s (refused n a t) e h k rest =
-    record {
-      ended =
-          stopped (omega arith) (k .0)
-          (subst (λ (u : Framed). interp framed (step c) u u ≡ refused n a t) (sym (k .1)) e);
-      sound = h;
-      named = ap (λ (u : Framed). record { stop = 7; place = 0; count = 0; cpu = c; held = u }) (sym (k .1));
-    }
+told-after b c s kept (refused n a t) e h k v rest =
+    record { store = s; ended = stopped (omega arith) (k .0) e; sound = h; named = refl }
 
-pub run-told : (b : ℕ) (c : Cpu) (s : Framed) → Sound c → Told b c s (run opsFor step b c s)
+pub run-told : (b : ℕ) (c : Cpu) (s : Framed) → Sound c → Even s → Told b c s (run opsFor step b c s)
 unfolding run
-run-told zero c s h = record { ended = spent refl refl refl; sound = h; named = refl }
-run-told (suc b) c s h =
-    told-after b c s (interp framed (step c) s s) refl h (came-to c s h) (λ d t k. run-told b d t k)
+run-told zero c s h v = record { store = s; ended = spent refl refl refl refl; sound = h; named = refl }
+run-told (suc b) c s h v =
+    told-after b c s (marked s (fetchedIn s c)) (interp framed (step c) s s) refl h (step-leaves c s h v)
+    (ap (λ (m : ℕ). m % 2) (long .mem) ∙ v)
+    (λ d t k w. run-told b d t k w)
+  where
+    long : Long (length (s .mem)) (length (s .map)) ((one c (interp framed (step c) s s)) .held)
+    long =
+        step-keeps opsFor (Long (length (s .mem)) (length (s .map))) (λ d. long-kept (length (s .mem)) (length (s .map))) step c s
+        (record { mem = refl; map = refl })
 
 -- what each of the two ways says of the number
-module _ (b : ℕ) (r : Result Cpu Framed) where
-  number-of : Ended b r → Refusal (r .stop) ⊎ (r .stop ≡ 6) ⊎ (r .stop ≡ 7)
-  number-of (spent e f k) = inr (inr e)
+module _ (b : ℕ) (s : Framed) (r : Result Cpu Framed) where
+  number-of : Ended b s r → Refusal (r .stop) ⊎ (r .stop ≡ 6) ⊎ (r .stop ≡ 7)
+  number-of (spent e f k h) = inr (inr e)
   number-of (stopped k n e) = inl n
 
-  not-six : Ended b r → r .stop ≢ 6
-  not-six (spent e f k) z = omega (arith, e, z)
+  not-six : Ended b s r → r .stop ≢ 6
+  not-six (spent e f k h) z = omega (arith, e, z)
   not-six (stopped k n e) z = refusal-apart (r .stop) n .1 z
 
-  all-spent : Ended b r → r .stop ≡ 7 → (r .count ≡ b) × (r .place ≡ 0)
-  all-spent (spent e f k) z = (k, f)
+  all-spent : Ended b s r → r .stop ≡ 7 → (r .count ≡ b) × (r .place ≡ 0) × (r .held ≡ s)
+  all-spent (spent e f k h) z = (k, f, h)
   all-spent (stopped k n e) z = absurd (refusal-apart (r .stop) n .2 z)
 
-  just-spent : Ended b r → r .count ≡ b → r .stop ≡ 7
-  just-spent (spent e f k) z = e
+  just-spent : Ended b s r → r .count ≡ b → r .stop ≡ 7
+  just-spent (spent e f k h) z = e
   just-spent (stopped k n e) z = absurd (omega (arith, k, z))
 
-  some-left : Ended b r → Refusal (r .stop)
-      → (r .count < b) × (interp framed (step (r .cpu)) (r .held) (r .held) ≡ refused (r .stop) (r .place) (r .held))
-  some-left (spent e f k) z = absurd (refusal-apart (r .stop) z .2 e)
+  some-left : Ended b s r → Refusal (r .stop)
+      → (r .count < b) × (interp framed (step (r .cpu)) s s ≡ refused (r .stop) (r .place) (r .held))
+  some-left (spent e f k h) z = absurd (refusal-apart (r .stop) z .2 e)
   some-left (stopped k n e) z = (k, e)
 
 true-false : (b : Bool) → b ≡ true → b ≡ false → ⊥
 true-false b e f = let z : _≡_ {A = ℕ} 0 1 = cc in omega arith
+
+-- a step that was refused, tried again from what it left: refused alike, and nothing more is marked
+left-again : (c : Cpu) (s : Framed) (n a : ℕ) (t : Framed) → interp framed (step c) s s ≡ refused n a t → t ≡ marked s (fetchedIn s c)
+    → interp framed (step c) t t ≡ refused n a t
+left-again c s n a t e k =
+    ap (λ (u : Framed). interp framed (step c) u u) k
+    ∙ late-all (fetchedIn s c) (step c) s s
+    ∙ ap (onStore (λ (u : Framed). marked u (fetchedIn s c))) e
+    ∙ ap (λ (u : Framed). refused n a (marked u (fetchedIn s c))) k
+    ∙ ap (λ (m : List ℕ). refused n a (framedOf (s .mem) m)) (marked-again (s .map) (fetchedIn s c))
+    ∙ ap (refused n a) (sym k)
 
 -- a run that was let in
 module _ (budget : ℕ) (g : Given) (p : proper g ≡ true) (l : budget ≤ 65535) where
@@ -231,7 +254,7 @@ module _ (budget : ℕ) (g : Given) (p : proper g ≡ true) (l : budget ≤ 6553
   ran = run opsFor step budget (cpuIn g) (storeIn g)
 
   told : Told budget (cpuIn g) (storeIn g) ran
-  told = run-told budget (cpuIn g) (storeIn g) (proper-parts g p .0)
+  told = run-told budget (cpuIn g) (storeIn g) (proper-parts g p .0) (even-pages (length (g .mem)) (proper-parts g p .2))
 
   -- so is the run of any smaller budget
   let-in : (b : ℕ) → b ≤ budget → runOutcome b g ≡ outcomeOf (run opsFor step b (cpuIn g) (storeIn g))
@@ -244,40 +267,74 @@ module _ (budget : ℕ) (g : Given) (p : proper g ≡ true) (l : budget ≤ 6553
   most : ran .count ≤ budget
   most = count-most opsFor step budget (cpuIn g) (storeIn g)
 
-  at-count : runOutcome (ran .count) g ≡ outcomeOf (atCount ran)
+  at-count : runOutcome (ran .count) g ≡ outcomeOf (atCount ran (told .store))
   at-count = let-in (ran .count) most ∙ ap outcomeOf (told .named)
 
-  long : Long (length (g .mem)) (length (g .map)) (ran .held)
-  long =
+  long : (b : ℕ) → Long (length (g .mem)) (length (g .map)) ((run opsFor step b (cpuIn g) (storeIn g)) .held)
+  long b =
       run-keeps opsFor (Long (length (g .mem)) (length (g .map))) (λ c. long-kept (length (g .mem)) (length (g .map))) step (cpuIn g) (storeIn g)
       (record { mem = refl; map = refl })
-      budget
+      b
 
   proper-still : proper (handed (outcomeOf ran)) ≡ true
-  proper-still = still-proper g ran p (told .sound) long
+  proper-still = still-proper g ran p (told .sound) (long budget)
 
-  -- the step that was refused, from what is handed back
-  next-step : interp framed (step (ran .cpu)) (ran .held) (ran .held) ≡ refused (ran .stop) (ran .place) (ran .held)
-      → stepOutcome (handed (outcomeOf ran)) ≡ refusedAt (outcomeOf ran)
+  -- before the instruction that was refused
+  long-before : Long (length (g .mem)) (length (g .map)) (told .store)
+  long-before =
+      subst (λ (r : Result Cpu Framed). Long (length (g .mem)) (length (g .map)) (r .held)) (told .named) (long (ran .count))
+
+  proper-before : proper (handed (outcomeOf (atCount ran (told .store)))) ≡ true
+  proper-before = still-proper g (atCount ran (told .store)) p (told .sound) long-before
+
+  -- a step from what was handed back so, by what it comes to
+  next-step : (s : Framed) → proper (handed (outcomeOf (atCount ran s))) ≡ true
+      → interp framed (step (ran .cpu)) s s ≡ refused (ran .stop) (ran .place) (ran .held)
+      → stepOutcome (handed (outcomeOf (atCount ran s))) ≡ refusedAt (outcomeOf ran)
   unfolding stepOutcome
-  next-step e = rw proper-still (ap (λ (x : Answer Cpu Framed). outcomeOf (one (ran .cpu) x)) e)
+  next-step s q e = rw q (ap (λ (x : Answer Cpu Framed). outcomeOf (one (ran .cpu) x)) e)
+
+  -- what the refused instruction left
+  module _ (e : interp framed (step (ran .cpu)) (told .store) (told .store) ≡ refused (ran .stop) (ran .place) (ran .held)) where
+    left : ran .held ≡ marked (told .store) (fetchedIn (told .store) (ran .cpu))
+    left =
+        subst (Came Sound (marked (told .store) (fetchedIn (told .store) (ran .cpu)))) e
+        (step-leaves (ran .cpu) (told .store) (told .sound)
+        (ap (λ (m : ℕ). m % 2) (long-before .mem) ∙ even-pages (length (g .mem)) (proper-parts g p .2)))
+        .1
+
+    left-handed : handed (outcomeOf ran) ≡ leftBy (handed (outcomeOf (atCount ran (told .store))))
+    unfolding leftBy
+    left-handed = ap (λ (u : Framed). handed (outcomeOf (atCount ran u))) left
+
+    again-refused : stepOutcome (handed (outcomeOf ran)) ≡ refusedAt (outcomeOf ran)
+    again-refused = next-step (ran .held) proper-still (left-again (ran .cpu) (told .store) (ran .stop) (ran .place) (ran .held) e left)
 
   clean-run : CleanRun budget g (outcomeOf ran)
   clean-run =
       let end = told .ended in
+      let s = told .store in
       record {
-        number = number-of budget ran end;
-        six = λ e. absurd (not-six budget ran end e);
+        number = number-of budget s ran end;
+        six = λ e. absurd (not-six budget s ran end e);
         always-six = λ e. absurd (true-false (both (proper g) (leb budget 65535)) entered e);
-        away = λ e. absurd (not-six budget ran end e);
+        away = λ e. absurd (not-six budget s ran end e);
         most = most;
-        spent = all-spent budget ran end;
-        always-spent = λ n. just-spent budget ran end;
-        named = ap handed (sym at-count);
+        spent = λ e. (all-spent budget s ran end e .0, all-spent budget s ran end e .1);
+        always-spent = λ n. just-spent budget s ran end;
         counted = ap (λ (o : Outcome). o .reply .count) at-count;
-        refused = λ e. (some-left budget ran end e .0, next-step (some-left budget ran end e .1));
+        named = λ e. spent-named e;
+        refused = λ e. (some-left budget s ran end e .0, rw at-count (next-step s proper-before (some-left budget s ran end e .1)));
+        trace = λ e. rw at-count (left-handed (some-left budget s ran end e .1));
+        still = λ e. again-refused (some-left budget s ran end e .1);
         again = λ e. proper-still;
       }
+    where
+      spent-named : (ran .stop ≡ 6) ⊎ (ran .stop ≡ 7) → handed (outcomeOf ran) ≡ before g (outcomeOf ran)
+      spent-named (inl e) = absurd (not-six budget (told .store) ran (told .ended) e)
+      spent-named (inr e) =
+          ap (λ (u : Framed). handed (outcomeOf (atCount ran u))) (all-spent budget (told .store) ran (told .ended) e .2)
+          ∙ ap handed (sym at-count)
 
 -- a run that was turned away hands back what it was lent, as does a run of budget 0
 handed-none : (g : Given) → handed (runOutcome 0 g) ≡ g
@@ -307,9 +364,11 @@ away-run budget g h =
       most = omega arith;
       spent = λ e. absurd (omega (arith, e));
       always-spent = λ n. absurd (n refl);
-      named = sym (handed-none g);
       counted = counted-none g;
+      named = λ e. sym (handed-none g);
       refused = λ e. absurd (refusal-apart 6 e .1 refl);
+      trace = λ e. absurd (refusal-apart 6 e .1 refl);
+      still = λ e. absurd (refusal-apart 6 e .1 refl);
       again = λ e. e;
     }
 

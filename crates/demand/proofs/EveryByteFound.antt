@@ -18,7 +18,7 @@ use Rattle.pages.specs.Tests.{Verdict, fine, bad, tests, sixTests}
 use Rattle.pages.specs.Look.{lookOf, testSeven, verdictOf}
 use Rattle.pages.specs.Framed.{Framed, lookIn, noted, readByte, writtenAt, writeAt, writeByte}
 use Rattle.pages.proofs.Marks.{look-quiet, written-quiet}
-use Rattle.machine.specs.Prog.{Prog, done, fail, look, get, put, Ops, after, interp}
+use Rattle.machine.specs.Prog.{Prog, done, fail, look, get, put, Ops, keeps, after, interp}
 use Rattle.machine.specs.Store.{framed}
 use Rattle.machine.specs.Cpu.{Cpu}
 use Rattle.machine.specs.Step.{step}
@@ -126,16 +126,24 @@ pub record Alike (o : Ops Framed) : Type 0 where
   pub wrote : (s : Framed) (a v : ℕ) → Finds s Store a → o .wrote s a v ≡ framed .wrote s a v
 
 module _ (o : Ops Framed) (k : Alike o) where
+  kept-alike : (acc : Access) (a : ℕ) (kept : Framed) → keeps o acc a kept ≡ keeps framed acc a kept
+  kept-alike Fetch a kept = k .noted kept Fetch a
+  kept-alike Load a kept = refl
+  kept-alike Store a kept = refl
+
   alike : {R : Type 0} (p : Prog R) (kept s : Framed) → Sure p s → interp o p kept s ≡ interp framed p kept s
   unfolding interp Sure
   alike (done r) kept s h = refl
   alike (fail n a) kept s h = refl
   alike (look acc a p) kept s h =
-      rw (k .looked s acc a, k .noted s acc a) (go (verdictOf (lookIn s acc a)) refl (λ e. alike p kept (noted s a) (h e)))
+      rw (k .looked s acc a, k .noted s acc a, kept-alike acc a kept)
+      (go (verdictOf (lookIn s acc a)) refl (λ e. alike p (keeps framed acc a kept) (noted s a) (h e)))
     where
       go : (v : Verdict) → verdictOf (lookIn s acc a) ≡ v
-          → (verdictOf (lookIn s acc a) ≡ fine → interp o p kept (noted s a) ≡ interp framed p kept (noted s a))
-          → after v (λ t. interp o p kept t) (noted s a) a kept ≡ after v (λ t. interp framed p kept t) (noted s a) a kept
+          → (verdictOf (lookIn s acc a) ≡ fine
+          → interp o p (keeps framed acc a kept) (noted s a) ≡ interp framed p (keeps framed acc a kept) (noted s a))
+          → after v (λ t. interp o p (keeps framed acc a kept) t) (noted s a) a kept
+          ≡ after v (λ t. interp framed p (keeps framed acc a kept) t) (noted s a) a kept
       go fine e f = f e
       go (bad c) e f = refl
   alike (get a p) kept s h =

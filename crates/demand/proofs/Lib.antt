@@ -6,7 +6,10 @@ pub mod DemandThreeHolds
 pub mod RunsInParts
 pub mod LookedUpFirst
 pub mod EveryByteFound
-pub mod StepEnds
+pub mod ActionEnds
+pub mod HalfwordFound
+pub mod StepLeaves
+pub mod MarkedPages
 pub mod DemandOneHolds
 pub mod Calls
 pub mod Examples

@@ -1,5 +1,5 @@
 -- Demand 1, as statements: of whatever was lent, what a step or a run hands back. They cite the machine's own questions, `stepOutcome`
--- and `runOutcome`, and nothing further down; proofs/DemandOneHolds proves each.
+-- and `runOutcome`, what a refusal leaves behind, and nothing further down; proofs/DemandOneHolds proves each.
 use Prim.Native.Nat.{ℕ, _<_, _≤_}
 use mathlib.Core.Path.{_≡_}
 use mathlib.Core.Logic.{_≢_, _⊎_}
@@ -7,6 +7,7 @@ use mathlib.Core.Bool.{true, false}
 use lib.Dec.{leb}
 use Rattle.words.specs.Pick.{both}
 use Rattle.machine.specs.Machine.{Given, Outcome, given, outcome, proper, stepOutcome, runOutcome}
+use Rattle.demand.specs.FetchedFrom.{leftBy}
 
 -- The numbers of a refused instruction: 1 to 5, and 8.
 abbrev pub Refusal : ℕ → Type 0
@@ -17,7 +18,11 @@ Refusal n = ((1 ≤ n) × (n ≤ 5)) ⊎ (n ≡ 8)
 abbrev pub handed : Outcome → Given
 handed o = given (o .mem) (o .map) (o .regs) (o .reply .pc) (o .reply .code) (o .reply .mask)
 
--- A refusal with o's number and place that leaves everything as o has it.
+-- What a run of o's count of steps hands back: the machine before the instruction that o was refused at, if it was.
+abbrev pub before : Given → Outcome → Given
+before g o = handed (runOutcome (o .reply .count) g)
+
+-- A refused step with o's number and place that hands back what o does.
 abbrev pub refusedAt : Outcome → Outcome
 refusedAt o =
     outcome
@@ -40,12 +45,13 @@ pub record CleanStep (g : Given) (o : Outcome) : Type 0 where
   -- 6 comes exactly where a list has the wrong size, or counter, code or mask is out of range
   pub six : o .reply .number ≡ 6 → proper g ≡ false
   pub always-six : proper g ≡ false → o .reply .number ≡ 6
-  -- refused or turned away, it has left no trace
-  pub trace : o .reply .number ≢ 0 → handed o ≡ g
+  -- turned away, it has altered nothing
+  pub away : o .reply .number ≡ 6 → (handed o ≡ g) × (o .reply .place ≡ 0)
+  -- refused, it leaves all as it was, but for G on the pages from which a halfword was fetched
+  pub trace : Refusal (o .reply .number) → handed o ≡ leftBy g
   -- only what completed is counted; place 0 with 0 and with 6
   pub completed : o .reply .number ≡ 0 → (o .reply .count ≡ 1) × (o .reply .place ≡ 0)
   pub uncounted : o .reply .number ≢ 0 → o .reply .count ≡ 0
-  pub away : o .reply .number ≡ 6 → o .reply .place ≡ 0
   -- what was proper stays so: what is handed back can be lent again
   pub again : proper g ≡ true → proper (handed o) ≡ true
 
@@ -61,12 +67,15 @@ pub record CleanRun (budget : ℕ) (g : Given) (o : Outcome) : Type 0 where
   pub most : o .reply .count ≤ budget
   pub spent : o .reply .number ≡ 7 → (o .reply .count ≡ budget) × (o .reply .place ≡ 0)
   pub always-spent : o .reply .number ≢ 6 → o .reply .count ≡ budget → o .reply .number ≡ 7
-  -- what is handed back is what the run of exactly `count` steps hands back, and that run completes them all
-  pub named : handed o ≡ handed (runOutcome (o .reply .count) g)
+  -- the run of exactly `count` steps completes them all, and unless an instruction was refused this hands back what that does
   pub counted : (runOutcome (o .reply .count) g) .reply .count ≡ o .reply .count
-  -- refused: budget was left, and the one step more, from what is handed back, is refused with this number at this place and
-  -- leaves everything as it was before that instruction
-  pub refused : Refusal (o .reply .number) → (o .reply .count < budget) × (stepOutcome (handed o) ≡ refusedAt o)
+  pub named : (o .reply .number ≡ 6) ⊎ (o .reply .number ≡ 7) → handed o ≡ before g o
+  -- refused: budget was left, and the one step more is refused with this number at this place and hands back what this does
+  pub refused : Refusal (o .reply .number) → (o .reply .count < budget) × (stepOutcome (before g o) ≡ refusedAt o)
+  -- refused, it leaves all as it was before that instruction, but for G on the pages from which a halfword of it was fetched
+  pub trace : Refusal (o .reply .number) → handed o ≡ leftBy (before g o)
+  -- tried once more, from what is handed back, it is refused alike, and nothing further is altered
+  pub still : Refusal (o .reply .number) → stepOutcome (handed o) ≡ refusedAt o
   -- what was proper stays so
   pub again : proper g ≡ true → proper (handed o) ≡ true
 

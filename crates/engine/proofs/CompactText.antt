@@ -1,20 +1,121 @@
--- The quick way to a text: six compact bytes hold its halfwords.
-use Prim.Native.Nat.{ℕ, _+_, _≤_}
+-- The quick way to a text: six compact bytes hold its halfwords, and their one page is marked once.
+use Prim.Native.Nat.{ℕ, zero, suc, _+_, _*_, _%_, _<_, _≤_}
 use native.Mathlib.Omega.{arith}
-use mathlib.Core.Path.{_≡_, refl, _∙_, ap}
-use mathlib.Core.Bool.{Bool, true}
+use native.Mathlib.Nat.{add-zero}
+use mathlib.Core.Path.{_≡_, refl, sym, _∙_, ap}
+use mathlib.Core.Bool.{Bool, true, false}
 use mathlib.Core.List.{List}
-use lib.ListN.{length}
-use Rattle.pages.specs.declared.Access.the-variants.{Fetch}
+use lib.Dec.{ltb}
+use lib.ListN.{length, getD}
+use Rattle.pages.specs.declared.Access.the-variants.{Fetch, Load}
+use Rattle.pages.specs.declared.Look.{Look}
+use Rattle.pages.specs.declared.Look.the-variants.{At}
 use Rattle.pages.specs.Compact.{realOf, compact}
-use Rattle.pages.specs.Framed.{framedOf}
-use Rattle.pages.proofs.CompactLaws.{compact-inside, compact-below}
-use Rattle.fields.specs.Direct.{readField, flat}
-use Rattle.fields.proofs.Found.{compact-half-look, compact-half-read}
+use Rattle.pages.specs.Word.{pageOf, next, accessed}
+use Rattle.pages.specs.Look.{lookOf}
+use Rattle.pages.specs.Framed.{Framed, framedOf, accessedAt, noted, readAt, readByte}
+use Rattle.pages.proofs.Marks.{accessed-again}
+use Rattle.pages.proofs.CompactLaws.{compact-inside, compact-below, compact-fits, compact-found}
+use Rattle.machine.specs.Prog.{Prog, done, finished, interp}
+use Rattle.machine.specs.Fields.{halfword}
+use Rattle.machine.specs.Store.{framed}
+use Rattle.machine.proofs.MarksLast.{blind, read-noted}
+use Rattle.fields.specs.Direct.{orElse, lookField, lookOne, readField, flat}
+use Rattle.fields.proofs.Found.{any-load}
+use Rattle.fields.proofs.Bridge.{gets-is}
+use Rattle.engine.specs.declared.Fetched.{Fetched}
 use Rattle.engine.specs.declared.Fetched.the-variants as T
-use Rattle.engine.specs.Entry.{fetchedOf}
-use Rattle.engine.proofs.Texts.{text-found}
+use Rattle.engine.specs.Entry.{past, halvesOf, markedIf, halfMarks, wantedHalf, furtherText, text, fetching, fetched}
+use Rattle.engine.proofs.Halfwords.{half-comes}
 
+-- a read does not see a mark
+field-noted : (s : Framed) (b a n v : ℕ) → readField (noted s b) a n v ≡ readField s a n v
+unfolding readField
+field-noted s b a zero v = refl
+field-noted s b a (suc n) v =
+    field-noted s b (next a) n (v * 256 + readByte (noted s b) a)
+    ∙ ap (λ (x : ℕ). readField s (next a) n (v * 256 + x)) (read-noted s b a)
+
+same-page-mark : (map : List ℕ) (a b : ℕ) → pageOf b ≡ pageOf a → accessedAt map b ≡ accessedAt map a
+unfolding accessedAt
+same-page-mark map a b h = rw h
+
+-- six bytes of one page, found from r on
+module _ (mem map : List ℕ) (pc r : ℕ) (low : pc + 6 ≤ 2097152) (fit : pc % 4096 + 6 ≤ 4096)
+    (six : (d : ℕ) → d < 6 → lookOf map (length mem) Fetch (pc + d) ≡ At (r + d)) where
+  behind : (a d : ℕ) → a ≡ pc + d → d + 2 ≤ 6 → next a ≡ pc + (d + 1)
+  unfolding next
+  behind a d e h = omega arith
+
+  byte-in : (d : ℕ) → d < 6 → readByte (framedOf mem map) (pc + d) ≡ getD mem (r + d) 0
+  unfolding readByte
+  byte-in d h = ap (readAt mem) (any-load map (length mem) Fetch (pc + d) (r + d) (six d h))
+
+  -- a halfword of them: its value, its look-up and its mark
+  module _ (a d : ℕ) (e : a ≡ pc + d) (h : d + 2 ≤ 6) where
+    value-in : readField (framedOf mem map) a 2 0 ≡ flat mem (r + d) 2 0
+    unfolding readField flat
+    value-in =
+        let f : next a ≡ pc + (d + 1) = behind a d e h in
+        let g : r + d + 1 ≡ r + (d + 1) = omega arith in
+        rw (e, behind (pc + d) d refl h, g, byte-in d (omega arith), byte-in (d + 1) (omega arith))
+
+    look-in : lookOne map (length mem) Fetch a 2 ≡ At (r + d)
+    unfolding lookOne lookField
+    look-in = rw (e, behind (pc + d) d refl h, six d (omega arith), six (d + 1) (omega arith))
+
+    mark-in : halfMarks map (length mem) a ≡ accessedAt map pc
+    unfolding halfMarks
+    mark-in =
+        rw (e, behind (pc + d) d refl h, six d (omega arith), six (d + 1) (omega arith))
+        (same-page-mark (accessedAt map (pc + d)) pc (pc + (d + 1)) (unfold pageOf in omega arith)
+        ∙ ap (λ (m : List ℕ). accessedAt m pc) (same-page-mark map pc (pc + d) (unfold pageOf in omega arith))
+        ∙ accessed-again map pc pc refl)
+
+    half-in : {R : Type 0} (k : ℕ → Prog R)
+        → interp framed (halfword a k) (framedOf mem map) (framedOf mem map)
+        ≡ interp framed (k (flat mem (r + d) 2 0)) (framedOf mem (accessedAt map pc)) (framedOf mem (accessedAt map pc))
+    half-in k =
+        half-comes mem map a k
+        ∙ rw (look-in, mark-in)
+        (ap (λ (v : ℕ). interp framed (k v) (framedOf mem (accessedAt map pc)) (framedOf mem (accessedAt map pc))) (field-noted (framedOf mem map) pc a 2 0 ∙ value-in))
+
+    -- the same where the page has its mark, and whether the operation has the halfword or lacks it
+    wanted-in : {R : Type 0} (k : ℕ → Prog R) (b : Bool) → accessedAt map pc ≡ map
+        → interp framed (wantedHalf b a k) (framedOf mem map) (framedOf mem map)
+        ≡ interp framed (k (flat mem (r + d) 2 0)) (framedOf mem map) (framedOf mem map)
+    wanted-in k true m = half-in k ∙ ap (λ (x : List ℕ). interp framed (k (flat mem (r + d) 2 0)) (framedOf mem x) (framedOf mem x)) m
+    wanted-in k false m =
+        gets-is a 2 0 k (framedOf mem map) (framedOf mem map)
+        ∙ ap (λ (v : ℕ). interp framed (k v) (framedOf mem map) (framedOf mem map)) value-in
+
+-- the text of six such bytes
+module _ (mem map : List ℕ) (pc r : ℕ) (low : pc + 6 ≤ 2097152) (fit : pc % 4096 + 6 ≤ 4096)
+    (six : (d : ℕ) → d < 6 → lookOf map (length mem) Fetch (pc + d) ≡ At (r + d)) where
+  six-marked : (d : ℕ) → d < 6 → lookOf (accessedAt map pc) (length mem) Fetch (pc + d) ≡ At (r + d)
+  six-marked d h = blind (framedOf mem map) pc Fetch (pc + d) ∙ six d h
+
+  further-in : (h1 n : ℕ)
+      → interp framed (furtherText n pc h1) (framedOf mem (accessedAt map pc)) (framedOf mem (accessedAt map pc))
+      ≡ finished (T.Whole h1 (flat mem (r + 2) 2 0) (flat mem (r + 4) 2 0)) (framedOf mem (accessedAt map pc))
+  unfolding interp
+  further-in h1 n =
+      wanted-in mem (accessedAt map pc) pc r low fit six-marked (past pc 2) 2 (omega arith) (omega arith)
+      (λ h2. wantedHalf (ltb 2 n) (past pc 4) (λ h3. done (T.Whole h1 h2 h3))) (ltb 1 n) (accessed-again map pc pc refl)
+      ∙ wanted-in mem (accessedAt map pc) pc r low fit six-marked (past pc 4) 4 (omega arith) (omega arith)
+      (λ h3. done (T.Whole h1 (flat mem (r + 2) 2 0) h3)) (ltb 2 n) (accessed-again map pc pc refl)
+
+  text-in : (h1 h2 h3 : ℕ) (map′ : List ℕ) → h1 ≡ flat mem r 2 0 → h2 ≡ flat mem (r + 2) 2 0 → h3 ≡ flat mem (r + 4) 2 0
+      → map′ ≡ accessedAt map pc → fetched (T.Whole h1 h2 h3) (framedOf mem map′) ≡ fetching pc (framedOf mem map)
+  unfolding text
+  text-in h1 h2 h3 map′ e1 e2 e3 m =
+      let z : flat mem (r + 0) 2 0 ≡ h1 = ap (λ (x : ℕ). flat mem x 2 0) (add-zero r) ∙ sym e1 in
+      sym
+      (half-in mem map pc r low fit six pc 0 (sym (add-zero pc)) (omega arith) (λ h. furtherText (halvesOf h) pc h)
+      ∙ further-in (flat mem (r + 0) 2 0) (halvesOf (flat mem (r + 0) 2 0))
+      ∙ rw (z, ← e2, ← e3, ← m))
+
+-- six compact bytes are such
 module _ (mem map : List ℕ) (pc : ℕ) (b : Bool) (eb : b ≡ compact map (length mem) Fetch pc 6) (t : b ≡ true) (r : ℕ) (er : r ≡ realOf map pc) where
   six-inside : r + 6 ≤ length mem
   six-inside = rw er (compact-inside map (length mem) Fetch pc 6 b eb t)
@@ -28,25 +129,8 @@ module _ (mem map : List ℕ) (pc : ℕ) (b : Bool) (eb : b ≡ compact map (len
   pub third-inside : r + 4 + 2 ≤ length mem
   third-inside = omega (arith, six-inside)
 
-  halfword-at : (h x d : ℕ) → h ≡ flat mem x 2 0 → x ≡ r + d → d + 2 ≤ 6 → h ≡ readField (framedOf mem map) (pc + d) 2 0
-  halfword-at h x d e ex l =
-      let at : x ≡ realOf map pc + d = ex ∙ ap (λ (y : ℕ). y + d) er in
-      e ∙ ap (λ (y : ℕ). flat mem y 2 0) at ∙ compact-half-read mem map Fetch pc 6 b eb t d l
-
-  pub text-compact : (h1 h2 h3 : ℕ) → h1 ≡ flat mem r 2 0 → h2 ≡ flat mem (r + 2) 2 0 → h3 ≡ flat mem (r + 4) 2 0
-      → T.Whole h1 h2 h3 ≡ fetchedOf (framedOf mem map) pc
-  text-compact h1 h2 h3 e1 e2 e3 =
-      let z : r ≡ r + 0 = omega arith in
-      text-found (framedOf mem map) pc (compact-below map (length mem) Fetch pc 6 b eb t)
-      (realOf map pc + 0)
-      (realOf map pc + 2)
-      (realOf map pc + 4)
-      h1
-      h2
-      h3
-      (compact-half-look mem map Fetch pc 6 b eb t 0 (omega arith))
-      (compact-half-look mem map Fetch pc 6 b eb t 2 (omega arith))
-      (compact-half-look mem map Fetch pc 6 b eb t 4 (omega arith))
-      (halfword-at h1 r 0 e1 z (omega arith))
-      (halfword-at h2 (r + 2) 2 e2 refl (omega arith))
-      (halfword-at h3 (r + 4) 4 e3 refl (omega arith))
+  pub text-compact : (h1 h2 h3 : ℕ) (map′ : List ℕ) → h1 ≡ flat mem r 2 0 → h2 ≡ flat mem (r + 2) 2 0 → h3 ≡ flat mem (r + 4) 2 0
+      → map′ ≡ accessedAt map pc → fetched (T.Whole h1 h2 h3) (framedOf mem map′) ≡ fetching pc (framedOf mem map)
+  text-compact =
+      text-in mem map pc r (compact-below map (length mem) Fetch pc 6 b eb t) (compact-fits map (length mem) Fetch pc 6 b eb t)
+      (λ d h. compact-found map (length mem) Fetch pc 6 b eb t d h ∙ ap (λ (x : ℕ). At (x + d)) (sym er))

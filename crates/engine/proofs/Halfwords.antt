@@ -1,82 +1,91 @@
--- A halfword of the instruction: refused, or fetched, the rest done, and its mark set last.
-use Prim.Native.Nat.{ℕ, zero, suc, _+_, _*_}
-use native.Mathlib.Omega.{arith}
-use mathlib.Core.Path.{_≡_, refl, _∙_, ap}
+-- A halfword of the instruction, by its look-up: refused, or fetched, and then the rest from where its marks are set.
+use Prim.Native.Nat.{ℕ}
+use mathlib.Core.Path.{_≡_, refl, sym, _∙_, ap}
+use mathlib.Core.Bool.{Bool, true, false}
 use mathlib.Core.List.{List}
+use lib.ListN.{length}
 use Rattle.pages.specs.declared.Access.the-variants.{Fetch}
+use Rattle.pages.specs.declared.Cause.{Cause}
 use Rattle.pages.specs.declared.Look.{Look}
 use Rattle.pages.specs.declared.Look.the-variants.{At, Refused}
-use Rattle.pages.specs.Word.{next}
-use Rattle.pages.specs.Framed.{Framed, framedOf, noted, readByte}
-use Rattle.machine.specs.Prog.{Prog, Answer, finished, refused, interp}
-use Rattle.machine.specs.Fields.{gets, halfword}
+use Rattle.pages.specs.Word.{next, pageOf, accessed}
+use Rattle.pages.specs.Tests.{numberOf}
+use Rattle.pages.specs.Look.{lookOf, verdictOf}
+use Rattle.pages.specs.Framed.{Framed, framedOf, accessedAt, noted}
+use Rattle.pages.proofs.LookLaws.{refused-place}
+use Rattle.pages.proofs.Marks.{look-quiet, accessed-quiet}
+use Rattle.machine.specs.Prog.{Prog, done, Answer, finished, refused, interp}
+use Rattle.machine.specs.Fields.{halfword}
 use Rattle.machine.specs.Store.{framed}
-use Rattle.machine.proofs.MarksLast.{late, read-noted, onStore}
-use Rattle.fields.specs.Direct.{noteField, readField}
-use Rattle.fields.proofs.Bridge.{gets-is}
-use Rattle.actions.proofs.Looks.{one-stop, one-go}
-use Rattle.engine.specs.declared.Fetched.{Fetched}
-use Rattle.engine.specs.declared.Fetched.the-variants as T
-use Rattle.engine.specs.Entry.{orStop, lookHalf}
+use Rattle.machine.proofs.MarksLast.{blind}
+use Rattle.machine.proofs.Fetches.{thenOn, half-then, half-refused, half-cut, half-fetched}
+use Rattle.fields.specs.Direct.{orElse, lookField, lookOne, readField}
+use Rattle.fields.proofs.Bridge.{afterLook, gets-is}
+use Rattle.engine.specs.Entry.{markedIf, halfMarks, lookWanted, wantedMarks, wantedHalf}
 
--- a read does not see a mark
-field-noted : (s : Framed) (b a n v : ℕ) → readField (noted s b) a n v ≡ readField s a n v
-unfolding readField
-field-noted s b a zero v = refl
-field-noted s b a (suc n) v =
-    field-noted s b (next a) n (v * 256 + readByte (noted s b) a)
-    ∙ ap (λ (x : ℕ). readField s (next a) n (v * 256 + x)) (read-noted s b a)
+-- what follows a look-up that has set its marks: a refusal, or the rest, both from the store as it is
+abbrev pub fromThere : {R : Type 0} → Look → ℕ → (ℕ → Prog R) → Framed → Answer R Framed
+fromThere l a k s = afterLook l (λ t. interp framed (k (readField t a 2 0)) t t) s s
 
-onStore-twice : {R : Type 0} (f g : Framed → Framed) (x : Answer R Framed) → onStore g (onStore f x) ≡ onStore (λ t. g (f t)) x
-onStore-twice f g (finished r s) = refl
-onStore-twice f g (refused n a s) = refl
+module _ {R : Type 0} (mem map : List ℕ) (a : ℕ) (k : ℕ → Prog R) where
+  pub half-comes : interp framed (halfword a k) (framedOf mem map) (framedOf mem map)
+      ≡ fromThere (lookOne map (length mem) Fetch a 2) a k (framedOf mem (halfMarks map (length mem) a))
+  unfolding lookOne lookField halfMarks readField
+  half-comes = go (lookOf map (length mem) Fetch a) refl (lookOf map (length mem) Fetch (next a)) refl
+    where
+      s : Framed
+      s = framedOf mem map
 
--- the store with the halfword's marks
-abbrev pub marks : ℕ → Framed → Framed
-marks a t = framedOf (t .mem) (noteField (t .map) a 2)
+      go : (l : Look) → lookOf map (length mem) Fetch a ≡ l → (m : Look) → lookOf map (length mem) Fetch (next a) ≡ m
+          → interp framed (halfword a k) (framedOf mem map) (framedOf mem map)
+          ≡ fromThere (orElse l (orElse m l)) a k
+          (framedOf mem (markedIf l (markedIf m (accessedAt (accessedAt map a) (next a)) (accessedAt map a)) map))
+      go (Refused c p) e m f =
+          half-refused framed a k (framedOf mem map) c (ap verdictOf e)
+          ∙ ap (λ (x : ℕ). refused (numberOf c) x (framedOf mem map)) (refused-place map (length mem) Fetch a c p e)
+      go (At r) e (Refused c p) f =
+          half-cut framed a k (framedOf mem map) (ap verdictOf e) c (ap verdictOf (blind (framedOf mem map) a Fetch (next a) ∙ f))
+          ∙ ap (λ (x : ℕ). refused (numberOf c) x (noted (framedOf mem map) a)) (refused-place map (length mem) Fetch (next a) c p f)
+      go (At r) e (At q) f =
+          half-fetched framed a k (framedOf mem map) (ap verdictOf e) (ap verdictOf (blind (framedOf mem map) a Fetch (next a) ∙ f))
 
-read-marked : (s : Framed) (a : ℕ) → readField (marks a s) a 2 0 ≡ readField s a 2 0
-unfolding noteField
-read-marked s a = field-noted (noted s a) (next a) a 2 0 ∙ field-noted s a a 2 0
+  -- one that the operation has or lacks
+  pub wanted-comes : (b : Bool) → interp framed (wantedHalf b a k) (framedOf mem map) (framedOf mem map)
+      ≡ fromThere (lookWanted b map (length mem) a) a k (framedOf mem (wantedMarks b map (length mem) a))
+  wanted-comes true = half-comes
+  wanted-comes false = gets-is a 2 0 k (framedOf mem map) (framedOf mem map)
 
-late-half : {R : Type 0} (a : ℕ) (p : Prog R) (kept s : Framed) → interp framed p kept (marks a s) ≡ onStore (marks a) (interp framed p kept s)
-unfolding noteField
-late-half a p kept s =
-    late (next a) p kept (noted s a)
-    ∙ ap (onStore (λ (t : Framed). noted t (next a))) (late a p kept s)
-    ∙ onStore-twice (λ (t : Framed). noted t a) (λ (t : Framed). noted t (next a)) (interp framed p kept s)
-
--- what an instruction comes to, by its text: refused, or what the action on the halfwords comes to, with f's marks
-abbrev pub comesTo : {R : Type 0} → Fetched → (Framed → Framed) → Answer R Framed → Framed → Answer R Framed
-comesTo (T.Whole h1 h2 h3) f x s = onStore f x
-comesTo (T.Stop k a) f x s = refused k a s
-
-comes-marked : {R : Type 0} (t : Fetched) (f g : Framed → Framed) (x : Answer R Framed) (s : Framed)
-    → onStore g (comesTo t f x s) ≡ comesTo t (λ u. g (f u)) x s
-comes-marked (T.Whole h1 h2 h3) f g x s = onStore-twice f g x
-comes-marked (T.Stop k a) f g x s = refl
-
--- a text that is whole, where nothing is marked
-pub comes-unchanged : {R : Type 0} (h1 h2 h3 : ℕ) (x : Answer R Framed) (s : Framed) → x ≡ comesTo (T.Whole h1 h2 h3) (λ u. u) x s
-comes-unchanged h1 h2 h3 (finished r t) s = refl
-comes-unchanged h1 h2 h3 (refused n a t) s = refl
-
--- a halfword in front of what the rest comes to
-pub half-comes : {R : Type 0} (mem map : List ℕ) (a : ℕ) (k : ℕ → Prog R) (t : Fetched) (f : Framed → Framed) (x : Answer R Framed)
-    → interp framed (k (readField (framedOf mem map) a 2 0)) (framedOf mem map) (framedOf mem map) ≡ comesTo t f x (framedOf mem map)
-    → interp framed (halfword a k) (framedOf mem map) (framedOf mem map)
-    ≡ comesTo (orStop (lookHalf (framedOf mem map) a) t) (λ u. marks a (f u)) x (framedOf mem map)
-unfolding halfword
-half-comes mem map a k t f x e = go (lookHalf (framedOf mem map) a) refl
+-- a halfword in front of two programs of which one is the other and something more
+pub half-more : {R T : Type 0} (a : ℕ) (j : ℕ → Prog R) (k : ℕ → Prog T) (go : R → Framed → Answer T Framed)
+    → ((h : ℕ) (t : Framed) → interp framed (k h) t t ≡ thenOn (interp framed (j h) t t) go)
+    → (s : Framed) → interp framed (halfword a k) s s ≡ thenOn (interp framed (halfword a j) s s) go
+half-more a j k go f s =
+    half-then framed a k s
+    ∙ by-half (interp framed (halfword a done) s s)
+    ∙ ap (λ (x : Answer _ Framed). thenOn x go) (sym (half-then framed a j s))
   where
-    go : (l : Look) → lookHalf (framedOf mem map) a ≡ l
-        → interp framed (halfword a k) (framedOf mem map) (framedOf mem map)
-        ≡ comesTo (orStop l t) (λ u. marks a (f u)) x (framedOf mem map)
-    go (Refused d b) l = one-stop Fetch a 2 (gets a 2 0 k) mem map (framedOf mem map) d b l (omega arith)
-    go (At r) l =
-        one-go Fetch a 2 (gets a 2 0 k) mem map (framedOf mem map) r l
-        ∙ gets-is a 2 0 k (framedOf mem map) (marks a (framedOf mem map))
-        ∙ ap (λ (h : ℕ). interp framed (k h) (framedOf mem map) (marks a (framedOf mem map))) (read-marked (framedOf mem map) a)
-        ∙ late-half a (k (readField (framedOf mem map) a 2 0)) (framedOf mem map) (framedOf mem map)
-        ∙ ap (onStore (marks a)) e
-        ∙ comes-marked t f (marks a) x (framedOf mem map)
+    by-half : (x : Answer ℕ Framed)
+        → thenOn x (λ h t. interp framed (k h) t t) ≡ thenOn (thenOn x (λ h t. interp framed (j h) t t)) go
+    by-half (finished h t) = f h t
+    by-half (refused n b t) = refl
+
+-- a halfword's look-up, by its way out
+module _ (map : List ℕ) (size a : ℕ) (first : Look) (e1 : first ≡ lookOf map size Fetch a) where
+  pub look-first : (d : Cause) (b : ℕ) → first ≡ Refused d b → (first ≡ lookOne map size Fetch a 2) × (map ≡ halfMarks map size a)
+  unfolding lookOne lookField halfMarks
+  look-first d b f = (rw (← e1, f), rw (← e1, f))
+
+  module _ (x : ℕ) (f1 : first ≡ At x) (map1 : List ℕ) (m1 : map1 ≡ accessedAt map a) (behind : ℕ) (eb : behind ≡ next a) (second : Look) (e2 : second ≡ lookOf map1 size Fetch behind) where
+    unmarked : second ≡ lookOf map size Fetch (next a)
+    unmarked =
+        e2
+        ∙ rw (m1, eb) (unfold accessedAt in look-quiet accessed accessed-quiet map (pageOf a) size Fetch (next a))
+
+    pub look-second : (d : Cause) (b : ℕ) → second ≡ Refused d b → (second ≡ lookOne map size Fetch a 2) × (map1 ≡ halfMarks map size a)
+    unfolding lookOne lookField halfMarks
+    look-second d b f = (rw (← e1, f1, ← unmarked, f), rw (← e1, f1, ← unmarked, f) m1)
+
+    pub look-both : (y : ℕ) (map2 : List ℕ) → second ≡ At y → map2 ≡ accessedAt map1 behind
+        → (first ≡ lookOne map size Fetch a 2) × (map2 ≡ halfMarks map size a)
+    unfolding lookOne lookField halfMarks
+    look-both y map2 f m2 = (rw (← e1, f1, ← unmarked, f), rw (← e1, f1, ← unmarked, f) (m2 ∙ rw (m1, eb)))

@@ -1,7 +1,6 @@
 mod Halfwords
 mod Texts
 mod CompactText
-mod Marked
 mod Lengths
 mod Runs
 mod Entries

@@ -12,7 +12,7 @@ use lib.IntN.{ℤ, pos, negsuc, subℕ}
 use Rattle.words.specs.Said.{Said}
 use Rattle.pages.specs.Framed.{Framed, framedOf}
 use Rattle.machine.specs.declared.Reply.{Reply}
-use Rattle.machine.specs.Prog.{Prog, done, fail}
+use Rattle.machine.specs.Prog.{Prog, done, fail, Answer, finished, refused}
 use Rattle.machine.specs.Run.{Result}
 use Rattle.machine.specs.Cpu.{Cpu}
 use Rattle.machine.specs.Machine.{Given, Outcome, outcome, stepOutcome, runOutcome}
@@ -23,7 +23,7 @@ use Rattle.actions.specs.Answered.{cpuOf, told, answersTo}
 use Rattle.engine.specs.declared.Ran.{Ran}
 use Rattle.engine.specs.declared.Fetched.{Fetched}
 use Rattle.engine.specs.declared.Fetched.the-variants as T
-use Rattle.engine.specs.Entry.{ranAs, fetchedSays}
+use Rattle.engine.specs.Entry.{ranAs, fetched, fetchedSays}
 
 -- `r ≡ ..` and `now (list .exit) ≡ ..`: the answer itself
 pub only : {A : Type 0} (a a′ x : A) → a ≡ x → a′ ≡ x → a ≡ a′
@@ -149,6 +149,29 @@ module _ (r r′ : Reply) (mem mem′ map map′ regs regs′ : List ℕ) where
   pub one-run-answer : (budget : ℕ) (g : Given) → outcome r mem map regs ≡ runOutcome budget g → outcome r′ mem′ map′ regs′ ≡ runOutcome budget g
       → (r ≡ r′) × (mem ≡ mem′) × (map ≡ map′) × (regs ≡ regs′)
   one-run-answer budget g = only-outcome (runOutcome budget g)
+
+-- `fetched r (framedOf (now (mem .entry)) (now (map .exit))) ≡ ..`
+abbrev textOf : Answer Fetched Framed → Fetched
+textOf (finished t s) = t
+textOf (refused n a s) = T.Stop n a
+
+abbrev storeOf : Answer Fetched Framed → Framed
+storeOf (finished t s) = s
+storeOf (refused n a s) = s
+
+text-of : (r : Fetched) (s : Framed) → textOf (fetched r s) ≡ r
+text-of (T.Whole h1 h2 h3) s = refl
+text-of (T.Stop n a) s = refl
+
+store-of : (r : Fetched) (s : Framed) → storeOf (fetched r s) ≡ s
+store-of (T.Whole h1 h2 h3) s = refl
+store-of (T.Stop n a) s = refl
+
+pub only-fetched : (r r′ : Fetched) (s s′ : Framed) (x : Answer Fetched Framed) → fetched r s ≡ x → fetched r′ s′ ≡ x → (r ≡ r′) × (s ≡ s′)
+only-fetched r r′ s s′ x e e′ = (
+  part textOf r r′ _ _ x (text-of r s) (text-of r′ s′) e e′,
+  part storeOf s s′ _ _ x (store-of r s) (store-of r′ s′) e e′,
+)
 
 -- what a text says in document 01's terms it says once
 abbrev textFrom : ℕ → List ℕ → Fetched

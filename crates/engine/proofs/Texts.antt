@@ -1,24 +1,18 @@
--- A step by its text: what the text says is what the step comes to, and the marks are set last.
-use Prim.Native.Nat.{ℕ, _+_, _%_, _<_, _≤_}
+-- A step by its text: the halfwords, as they are fetched one after the other, and then the action on them.
+use Prim.Native.Nat.{ℕ, _%_, _<_}
 use native.Mathlib.Omega.{arith}
-use native.Mathlib.Decide.{decLt}
 use mathlib.Core.Path.{_≡_, refl, sym, _∙_, ap}
-use mathlib.Core.Bool.{Bool, true, false}
 use mathlib.Core.List.{List}
 use borrow.Author.Tests.{eq-eqb, ne-eqb}
 use lib.Dec.{eqb, ltb}
 use lib.ListN.{length}
-use Rattle.words.specs.Pick.{pick}
 use Rattle.pages.specs.declared.Access.the-variants.{Fetch}
 use Rattle.pages.specs.declared.Cause.{Cause}
-use Rattle.pages.specs.declared.Cause.the-variants.{Addressing}
 use Rattle.pages.specs.declared.Look.{Look}
 use Rattle.pages.specs.declared.Look.the-variants.{At, Refused}
 use Rattle.pages.specs.Tests.{numberOf}
-use Rattle.pages.specs.Look.{lookOf}
 use Rattle.pages.specs.Framed.{Framed, framedOf}
-use Rattle.pages.proofs.LookLaws.{look-1}
-use Rattle.machine.specs.Prog.{Answer, finished, refused, interp}
+use Rattle.machine.specs.Prog.{Prog, done, Answer, finished, refused, interp}
 use Rattle.machine.specs.Run.{Result, one}
 use Rattle.machine.specs.Store.{framed}
 use Rattle.machine.specs.Cpu.{Cpu, ahead}
@@ -26,161 +20,84 @@ use Rattle.machine.specs.Rx.{rx}
 use Rattle.machine.specs.Rs.{rs}
 use Rattle.machine.specs.Si.{si}
 use Rattle.machine.specs.Ss.{ss}
-use Rattle.machine.specs.Fields.{halfword}
+use Rattle.machine.specs.Fields.{gets, halfword}
 use Rattle.machine.specs.Step.{step, known, act}
-use Rattle.machine.proofs.MarksLast.{onStore}
+use Rattle.machine.proofs.Fetches.{thenOn}
 use Rattle.code.specs.declared.Action.the-variants.{Rr, Rx, Rs, Si, Ss}
 use Rattle.code.specs.declared.Found.{Found}
 use Rattle.code.specs.declared.Found.the-variants.{Known, Unknown}
 use Rattle.code.specs.Table.{actionOf}
 use Rattle.code.specs.Formats.{opOf, rxOf, rsOf, siOf, ssOf}
-use Rattle.fields.specs.Direct.{lookField, lookOne, readField}
+use Rattle.fields.specs.Direct.{lookOne, readField}
 use Rattle.actions.specs.declared.Now.{Now}
 use Rattle.actions.specs.declared.Out.{Out}
 use Rattle.actions.specs.declared.Out.the-variants.{Done, Stop}
-use Rattle.actions.specs.Answered.{cpuOf, told, doing, refusalOf}
+use Rattle.actions.specs.Answered.{cpuOf, told, doing}
 use Rattle.engine.specs.declared.Fetched.{Fetched}
 use Rattle.engine.specs.declared.Fetched.the-variants as T
-use Rattle.engine.specs.Entry.{past, halves, halvesOf, orStop, unless, lookHalf, furtherOf, wholeOf, fetchedOf, actWhole, whole, markFurther, markHalves, markedText}
-use Rattle.engine.proofs.Halfwords.{marks, comesTo, comes-unchanged, half-comes}
+use Rattle.engine.specs.Entry.{past, halves, halvesOf, halfMarks, lookWanted, wantedMarks, wantedHalf, furtherText, text, fetching, fetched, stopOf, actWhole, whole}
+use Rattle.engine.proofs.Halfwords.{fromThere, half-comes, wanted-comes, half-more}
 
--- the store with the marks of the further halfwords, and of all
-abbrev further-marks : ℕ → ℕ → Framed → Framed
-further-marks n pc t = framedOf (t .mem) (markFurther n (t .map) pc)
+-- what an instruction comes to, by its text
+abbrev byText : Cpu → Fetched → Framed → Answer Cpu Framed
+byText c (T.Whole h1 h2 h3) s = interp framed (whole h1 h2 h3 c) s s
+byText c (T.Stop n a) s = refused n a s
 
-abbrev text-marks : ℕ → ℕ → Framed → Framed
-text-marks n pc t = framedOf (t .mem) (markHalves n (t .map) pc)
+module _ (c : Cpu) (h1 : ℕ) (f : Found) (names : f ≡ actionOf (opOf h1)) where
+  -- the first halfword names the operation
+  acts : (h2 h3 : ℕ) (s : Framed) → interp framed (actWhole f h1 h2 h3 c) s s ≡ byText c (T.Whole h1 h2 h3) s
+  unfolding whole
+  acts h2 h3 s = ap (λ (g : Found). interp framed (actWhole g h1 h2 h3 c) s s) names
 
-module _ (regs : List ℕ) (c : Now) (mem map : List ℕ) where
-  -- what the action on the halfwords in storage comes to
-  abbrev acted : Found → ℕ → Answer Cpu Framed
-  acted f h1 =
-      interp framed (actWhole f h1 (readField (framedOf mem map) (past (c .pc) 2) 2 0) (readField (framedOf mem map) (past (c .pc) 4) 2 0) (cpuOf regs c)) (framedOf mem map) (framedOf mem map)
+module _ (c : Cpu) (h1 : ℕ) where
+  -- an operation of four bytes: its second halfword; the third is read and not looked at
+  two-halves : (k : ℕ → Prog Cpu) → ((h2 h3 : ℕ) (s : Framed) → interp framed (k h2) s s ≡ byText c (T.Whole h1 h2 h3) s) → (s : Framed)
+      → interp framed (halfword (past (c .pc) 2) k) s s ≡ thenOn (interp framed (furtherText 2 (c .pc) h1) s s) (byText c)
+  unfolding gets interp
+  two-halves k e =
+      half-more (past (c .pc) 2) (λ h2. gets (past (c .pc) 4) 2 0 (λ h3. done (T.Whole h1 h2 h3))) k (byText c) (λ h2 t. e h2 _ t)
 
-  abbrev all-halves : Fetched
-  all-halves = wholeOf (framedOf mem map) (c .pc)
+  known-text : (f : Found) → f ≡ actionOf (opOf h1) → (s : Framed)
+      → interp framed (known f h1 c) s s ≡ thenOn (interp framed (furtherText (halves f) (c .pc) h1) s s) (byText c)
+  unfolding act ahead gets interp
+  known-text Unknown e s = acts c h1 Unknown e _ _ s
+  known-text (Known (Rr x)) e s = acts c h1 (Known (Rr x)) e _ _ s
+  known-text (Known (Rx x)) e s = two-halves (λ h2. rx x (rxOf h1 h2) c) (acts c h1 (Known (Rx x)) e) s
+  known-text (Known (Rs x)) e s = two-halves (λ h2. rs x (rsOf h1 h2) c) (acts c h1 (Known (Rs x)) e) s
+  known-text (Known (Si x)) e s = two-halves (λ h2. si x (siOf h1 h2) c) (acts c h1 (Known (Si x)) e) s
+  known-text (Known (Ss x)) e s =
+      half-more (past (c .pc) 2) (λ h2. halfword (past (c .pc) 4) (λ h3. done (T.Whole h1 h2 h3))) (λ h2. halfword (past (c .pc) 4) (λ h3. ss x (ssOf h1 h2 h3) c)) (byText c)
+      (λ h2. half-more (past (c .pc) 4) (λ h3. done (T.Whole h1 h2 h3)) (λ h3. ss x (ssOf h1 h2 h3) c) (byText c) (λ h3 t. acts c h1 (Known (Ss x)) e h2 h3 t))
+      s
 
-  nothing-more : (x : Answer Cpu Framed) → x ≡ comesTo (wholeOf (framedOf mem map) (c .pc)) (λ u. u) x (framedOf mem map)
-  nothing-more x =
-      comes-unchanged (readField (framedOf mem map) (c .pc) 2 0) (readField (framedOf mem map) (past (c .pc) 2) 2 0) (readField (framedOf mem map) (past (c .pc) 4) 2 0) x (framedOf mem map)
+step-text : (c : Cpu) → (c .pc % 2 ≡ 1 → ⊥) → (s : Framed) → interp framed (step c) s s ≡ thenOn (fetching (c .pc) s) (byText c)
+unfolding step text
+step-text c h s =
+    rw (ne-eqb (c .pc % 2) 1 h)
+    (half-more (c .pc) (λ h1. furtherText (halvesOf h1) (c .pc) h1) (λ h1. known (actionOf (opOf h1)) h1 c) (byText c)
+    (λ h1 t. known-text c h1 (actionOf (opOf h1)) refl t)
+    s)
 
-  -- the halfwords after the first
-  further-comes : (f : Found) (h1 : ℕ)
-      → interp framed (known f h1 (cpuOf regs c)) (framedOf mem map) (framedOf mem map)
-      ≡ comesTo (furtherOf (framedOf mem map) (c .pc) (halves f) all-halves) (further-marks (halves f) (c .pc)) (acted f h1) (framedOf mem map)
-  unfolding act ahead
-  further-comes Unknown h1 = nothing-more (acted Unknown h1)
-  further-comes (Known (Rr x)) h1 = nothing-more (acted (Known (Rr x)) h1)
-  further-comes (Known (Rx x)) h1 =
-      half-comes mem map (past (c .pc) 2) (λ h2. rx x (rxOf h1 h2) (cpuOf regs c)) all-halves (λ u. u) (acted (Known (Rx x)) h1) (nothing-more (acted (Known (Rx x)) h1))
-  further-comes (Known (Rs x)) h1 =
-      half-comes mem map (past (c .pc) 2) (λ h2. rs x (rsOf h1 h2) (cpuOf regs c)) all-halves (λ u. u) (acted (Known (Rs x)) h1) (nothing-more (acted (Known (Rs x)) h1))
-  further-comes (Known (Si x)) h1 =
-      half-comes mem map (past (c .pc) 2) (λ h2. si x (siOf h1 h2) (cpuOf regs c)) all-halves (λ u. u) (acted (Known (Si x)) h1) (nothing-more (acted (Known (Si x)) h1))
-  further-comes (Known (Ss x)) h1 =
-      half-comes mem map (past (c .pc) 2) (λ h2. halfword (past (c .pc) 4) (λ h3. ss x (ssOf h1 h2 h3) (cpuOf regs c)))
-      (orStop (lookHalf (framedOf mem map) (past (c .pc) 4)) all-halves)
-      (marks (past (c .pc) 4))
-      (acted (Known (Ss x)) h1)
-      (half-comes mem map (past (c .pc) 4) (λ h3. ss x (ssOf h1 (readField (framedOf mem map) (past (c .pc) 2) 2 0) h3) (cpuOf regs c)) all-halves (λ u. u) (acted (Known (Ss x)) h1) (nothing-more (acted (Known (Ss x)) h1)))
-
-  -- a step from an even counter
-  step-comes : (c .pc % 2 ≡ 1 → ⊥)
-      → interp framed (step (cpuOf regs c)) (framedOf mem map) (framedOf mem map)
-      ≡ comesTo (fetchedOf (framedOf mem map) (c .pc)) (text-marks (halvesOf (readField (framedOf mem map) (c .pc) 2 0)) (c .pc))
-      (interp framed (whole (readField (framedOf mem map) (c .pc) 2 0) (readField (framedOf mem map) (past (c .pc) 2) 2 0) (readField (framedOf mem map) (past (c .pc) 4) 2 0) (cpuOf regs c)) (framedOf mem map) (framedOf mem map))
-      (framedOf mem map)
-  unfolding step fetchedOf whole markHalves
-  step-comes h =
-      rw (ne-eqb (c .pc % 2) 1 h)
-      (half-comes mem map (c .pc) (λ h1. known (actionOf (opOf h1)) h1 (cpuOf regs c))
-      (furtherOf (framedOf mem map) (c .pc) (halvesOf (readField (framedOf mem map) (c .pc) 2 0)) all-halves)
-      (further-marks (halvesOf (readField (framedOf mem map) (c .pc) 2 0)) (c .pc))
-      (acted (actionOf (opOf (readField (framedOf mem map) (c .pc) 2 0))) (readField (framedOf mem map) (c .pc) 2 0))
-      (further-comes (actionOf (opOf (readField (framedOf mem map) (c .pc) 2 0))) (readField (framedOf mem map) (c .pc) 2 0)))
-
--- a text that is whole holds the halfwords
-passed : (l : Look) (t : Fetched) (h1 h2 h3 : ℕ) → orStop l t ≡ T.Whole h1 h2 h3 → t ≡ T.Whole h1 h2 h3
-passed (At r) t h1 h2 h3 e = e
-passed (Refused c a) t h1 h2 h3 e = absurd (let z : _≡_ {A = ℕ} 0 1 = cc in omega arith)
-
-passed-unless : (b : Bool) (l : Look) (t : Fetched) (h1 h2 h3 : ℕ) → unless b l t ≡ T.Whole h1 h2 h3 → t ≡ T.Whole h1 h2 h3
-passed-unless true l t h1 h2 h3 e = passed l t h1 h2 h3 e
-passed-unless false l t h1 h2 h3 e = e
-
-module _ (s : Framed) (pc h1 h2 h3 : ℕ) (e : fetchedOf s pc ≡ T.Whole h1 h2 h3) where
-  is-whole : wholeOf s pc ≡ T.Whole h1 h2 h3
-  unfolding fetchedOf
-  is-whole =
-      passed-unless (ltb 2 (halvesOf (readField s pc 2 0))) (lookHalf s (past pc 4)) (wholeOf s pc) h1 h2 h3
-      (passed-unless (ltb 1 (halvesOf (readField s pc 2 0))) (lookHalf s (past pc 2)) _ h1 h2 h3 (passed (lookHalf s pc) _ h1 h2 h3 e))
-
-  first-is : readField s pc 2 0 ≡ h1
-  first-is = cc is-whole
-
-  second-is : readField s (past pc 2) 2 0 ≡ h2
-  second-is = cc is-whole
-
-  third-is : readField s (past pc 4) 2 0 ≡ h3
-  third-is = cc is-whole
-
-  -- and its counter is an address
-  low : pc < 2097152
-  unfolding fetchedOf lookOne lookField
-  low = go (decLt pc 2097152)
-    where
-      go : Dec (pc < 2097152) → pc < 2097152
-      go (yes h) = h
-      go (no h) =
-          let f : Refused Addressing pc ≡ lookOf (s .map) (length (s .mem)) Fetch pc = look-1 (s .map) (length (s .mem)) Fetch pc (omega arith) in
-          absurd (let z : _≡_ {A = ℕ} 0 1 = cc (rw (← f) at e) in omega arith)
-
-pub text-low : (mem map : List ℕ) (pc : ℕ) (text : Fetched) (h1 h2 h3 : ℕ) → text ≡ fetchedOf (framedOf mem map) pc → text ≡ T.Whole h1 h2 h3 → pc < 16777216
-text-low mem map pc text h1 h2 h3 e t = omega (arith, low (framedOf mem map) pc h1 h2 h3 (sym e ∙ t))
-
--- a result's store, changed where the step completed
-abbrev onDone : (Framed → Framed) → Result Cpu Framed → Result Cpu Framed
-onDone f r =
-    record { stop = r .stop; place = r .place; count = r .count; cpu = r .cpu; held = pick (eqb (r .count) 1) (f (r .held)) (r .held) }
-
-one-done : (c : Cpu) (f : Framed → Framed) (x : Answer Cpu Framed) → one c (onStore f x) ≡ onDone f (one c x)
-one-done c f (finished r s) = refl
-one-done c f (refused n a s) = refl
-
-told-done : (out : Out) (regs : List ℕ) (c : Now) (mem map : List ℕ) (pc h1 : ℕ)
-    → told out regs c (framedOf mem (markedText out map pc h1)) ≡ onDone (text-marks (halvesOf h1) pc) (told out regs c (framedOf mem map))
-unfolding told
-told-done (Done n) regs c mem map pc h1 = refl
-told-done (Stop k p) regs c mem map pc h1 = refl
-
--- a step, by its way out
+-- a step, by its way out; map′ has the marks of the fetch
 module _ (regs : List ℕ) (c : Now) (mem map : List ℕ) where
   pub step-odd : c .pc % 2 ≡ 1 → told (Stop 2 (c .pc)) regs c (framedOf mem map) ≡ doing step regs c (framedOf mem map)
   unfolding step told interp
   step-odd h = rw (eq-eqb (c .pc % 2) 1 h)
 
-  module _ (h : c .pc % 2 ≡ 1 → ⊥) (text : Fetched) (e : text ≡ fetchedOf (framedOf mem map) (c .pc)) where
-    pub step-stop : (k a : ℕ) → text ≡ T.Stop k a → told (Stop k a) regs c (framedOf mem map) ≡ doing step regs c (framedOf mem map)
+  module _ (h : c .pc % 2 ≡ 1 → ⊥) (r : Fetched) (map′ : List ℕ) (e : fetched r (framedOf mem map′) ≡ fetching (c .pc) (framedOf mem map)) where
+    comes : (x : Answer Cpu Framed) → x ≡ thenOn (fetched r (framedOf mem map′)) (byText (cpuOf regs c))
+        → one (cpuOf regs c) x ≡ doing step regs c (framedOf mem map)
+    comes x k =
+        ap (one (cpuOf regs c))
+        (k ∙ ap (λ (y : Answer Fetched Framed). thenOn y (byText (cpuOf regs c))) e ∙ sym (step-text (cpuOf regs c) h (framedOf mem map)))
+
+    pub step-stop : (k a : ℕ) → r ≡ T.Stop k a → told (Stop k a) regs c (framedOf mem map′) ≡ doing step regs c (framedOf mem map)
     unfolding told
-    step-stop k a t = rw (step-comes regs c mem map h, ← e, t)
+    step-stop k a t = comes (refused k a (framedOf mem map′)) (rw t)
 
-    module _ (h1 h2 h3 : ℕ) (t : text ≡ T.Whole h1 h2 h3) where
-      all-done : interp framed (step (cpuOf regs c)) (framedOf mem map) (framedOf mem map)
-          ≡ onStore (text-marks (halvesOf h1) (c .pc)) (interp framed (whole h1 h2 h3 (cpuOf regs c)) (framedOf mem map) (framedOf mem map))
-      all-done =
-          step-comes regs c mem map h
-          ∙ rw (← e, t, first-is (framedOf mem map) (c .pc) h1 h2 h3 (sym e ∙ t), second-is (framedOf mem map) (c .pc) h1 h2 h3 (sym e ∙ t), third-is (framedOf mem map) (c .pc) h1 h2 h3 (sym e ∙ t))
-
-      pub step-whole : (out : Out) (regs′ mem′ map′ map″ : List ℕ)
-          → told out regs′ c (framedOf mem′ map′) ≡ doing (whole h1 h2 h3) regs c (framedOf mem map)
-          → map″ ≡ markedText out map′ (c .pc) h1
-          → told out regs′ c (framedOf mem′ map″) ≡ doing step regs c (framedOf mem map)
-      step-whole out regs′ mem′ map′ map″ d m =
-          ap (λ (x : List ℕ). told out regs′ c (framedOf mem′ x)) m
-          ∙ told-done out regs′ c mem′ map′ (c .pc) h1
-          ∙ ap (onDone (text-marks (halvesOf h1) (c .pc))) d
-          ∙ sym (one-done (cpuOf regs c) (text-marks (halvesOf h1) (c .pc)) (interp framed (whole h1 h2 h3 (cpuOf regs c)) (framedOf mem map) (framedOf mem map)))
-          ∙ ap (one (cpuOf regs c)) (sym all-done)
+    pub step-whole : (h1 h2 h3 : ℕ) → r ≡ T.Whole h1 h2 h3 → (x : Result Cpu Framed) → x ≡ doing (whole h1 h2 h3) regs c (framedOf mem map′)
+        → x ≡ doing step regs c (framedOf mem map)
+    step-whole h1 h2 h3 t x d = d ∙ comes (interp framed (whole h1 h2 h3 (cpuOf regs c)) (framedOf mem map′) (framedOf mem map′)) (rw t)
 
 -- an operation that is not known
 pub unknown-stop : (regs : List ℕ) (c : Now) (mem map : List ℕ) (h1 h2 h3 : ℕ) (found : Found) → found ≡ actionOf (opOf h1) → found ≡ Unknown
@@ -188,52 +105,49 @@ pub unknown-stop : (regs : List ℕ) (c : Now) (mem map : List ℕ) (h1 h2 h3 : 
 unfolding whole told interp
 unknown-stop regs c mem map h1 h2 h3 found e u = rw (← e, u)
 
--- a text by its look-ups, the last first
-module _ (s : Framed) (pc second third h1 h2 h3 n : ℕ) where
-  pub text-each : (from-third from-second r : Fetched) → second ≡ past pc 2 → third ≡ past pc 4
-      → h1 ≡ readField s pc 2 0 → h2 ≡ readField s second 2 0 → h3 ≡ readField s third 2 0 → n ≡ halvesOf h1
-      → from-third ≡ unless (ltb 2 n) (lookHalf s third) (T.Whole h1 h2 h3)
-      → from-second ≡ unless (ltb 1 n) (lookHalf s second) from-third
-      → r ≡ orStop (lookHalf s pc) from-second
-      → r ≡ fetchedOf s pc
-  unfolding fetchedOf
-  text-each from-third from-second r es et e1 e2 e3 en f3 f2 f1 = rw (f1, f2, f3, en, e3, e2, e1, et, es)
+-- a text by its look-ups, one after the other: refused at one of them, or whole
+stopped : (mem map : List ℕ) (l : Look) (d : Cause) (b : ℕ) (r : Fetched) (x : Answer Fetched Framed) → l ≡ Refused d b → r ≡ stopOf l
+    → x ≡ refused (numberOf d) b (framedOf mem map) → fetched r (framedOf mem map) ≡ x
+stopped mem map l d b r x e k h = rw (k, e) (sym h)
 
--- a text whose halfwords are all found
-found-stays : (b : Bool) (r : ℕ) (t : Fetched) → unless b (At r) t ≡ t
-found-stays true r t = refl
-found-stays false r t = refl
+-- what follows the second halfword
+abbrev thirdText : ℕ → ℕ → ℕ → ℕ → Prog Fetched
+thirdText n last h1 h2 = wantedHalf (ltb 2 n) last (λ h3. done (T.Whole h1 h2 h3))
 
-module _ (s : Framed) (pc : ℕ) (l : pc + 6 ≤ 2097152) where
-  pub text-found : (r1 r2 r3 h1 h2 h3 : ℕ) → At r1 ≡ lookHalf s (pc + 0) → At r2 ≡ lookHalf s (pc + 2) → At r3 ≡ lookHalf s (pc + 4)
-      → h1 ≡ readField s (pc + 0) 2 0 → h2 ≡ readField s (pc + 2) 2 0 → h3 ≡ readField s (pc + 4) 2 0
-      → T.Whole h1 h2 h3 ≡ fetchedOf s pc
-  unfolding fetchedOf
-  text-found r1 r2 r3 h1 h2 h3 l1 l2 l3 e1 e2 e3 =
-      let zero-on : pc ≡ pc + 0 = omega arith in
-      let two-on : past pc 2 ≡ pc + 2 = omega arith in
-      let four-on : past pc 4 ≡ pc + 4 = omega arith in
-      let f1 : lookHalf s pc ≡ At r1 = ap (lookHalf s) zero-on ∙ sym l1 in
-      let f2 : lookHalf s (past pc 2) ≡ At r2 = ap (lookHalf s) two-on ∙ sym l2 in
-      let f3 : lookHalf s (past pc 4) ≡ At r3 = ap (lookHalf s) four-on ∙ sym l3 in
-      let g1 : readField s pc 2 0 ≡ h1 = ap (λ (a : ℕ). readField s a 2 0) zero-on ∙ sym e1 in
-      let g2 : readField s (past pc 2) 2 0 ≡ h2 = ap (λ (a : ℕ). readField s a 2 0) two-on ∙ sym e2 in
-      let g3 : readField s (past pc 4) 2 0 ≡ h3 = ap (λ (a : ℕ). readField s a 2 0) four-on ∙ sym e3 in
-      rw (f1, f2, f3, g1, g2, g3)
-      (sym
-      (found-stays (ltb 1 (halvesOf h1)) r2 (unless (ltb 2 (halvesOf h1)) (At r3) (T.Whole h1 h2 h3))
-      ∙ found-stays (ltb 2 (halvesOf h1)) r3 (T.Whole h1 h2 h3)))
+module _ (mem map : List ℕ) (pc : ℕ) (first : Look) (map1 : List ℕ) (e1 : first ≡ lookOne map (length mem) Fetch pc 2) (m1 : map1 ≡ halfMarks map (length mem) pc) where
+  from-first : fetching pc (framedOf mem map) ≡ fromThere first pc (λ h1. furtherText (halvesOf h1) pc h1) (framedOf mem map1)
+  unfolding text
+  from-first = half-comes mem map pc (λ h1. furtherText (halvesOf h1) pc h1) ∙ rw (← e1, ← m1)
 
--- a refusal in the text's place; a look-up that refuses is never done
-module _ (look : Look) (d : Cause) (b : ℕ) (l : look ≡ Refused d b) (out : Out) (o : out ≡ refusalOf look) (text : Fetched) where
-  pub stop-told : (k a : ℕ) → out ≡ Stop k a → T.Stop k a ≡ orStop look text
-  stop-told k a e =
-      let j : Stop k a ≡ Stop (numberOf d) b = sym e ∙ o ∙ ap refusalOf l in
-      let x : k ≡ numberOf d = cc in
-      let y : a ≡ b = cc in
-      rw (l, x, y)
+  pub stop-first : (d : Cause) (b : ℕ) (r : Fetched) → first ≡ Refused d b → r ≡ stopOf first
+      → fetched r (framedOf mem map1) ≡ fetching pc (framedOf mem map)
+  stop-first d b r f k = stopped mem map1 first d b r _ f k (from-first ∙ rw f)
 
-  pub stop-never : (n : Now) → out ≡ Done n → text ≡ orStop look text
-  stop-never n e =
-      let j : Done n ≡ Stop (numberOf d) b = sym e ∙ o ∙ ap refusalOf l in
-      absurd (let z : _≡_ {A = ℕ} 0 1 = cc in omega arith)
+  module _ (x : ℕ) (f1 : first ≡ At x) (h1 n : ℕ) (eh : h1 ≡ readField (framedOf mem map1) pc 2 0) (en : n ≡ halvesOf h1)
+      (on : ℕ) (eo : on ≡ past pc 2) (second : Look) (map2 : List ℕ)
+      (e2 : second ≡ lookWanted (ltb 1 n) map1 (length mem) on) (m2 : map2 ≡ wantedMarks (ltb 1 n) map1 (length mem) on) where
+    from-second : fetching pc (framedOf mem map) ≡ fromThere second on (thirdText n (past pc 4) h1) (framedOf mem map2)
+    from-second =
+        from-first
+        ∙ rw (f1, ← eh, ← en, ← eo) (wanted-comes mem map1 on (thirdText n (past pc 4) h1) (ltb 1 n) ∙ rw (← e2, ← m2))
+
+    pub stop-second : (d : Cause) (b : ℕ) (r : Fetched) → second ≡ Refused d b → r ≡ stopOf second
+        → fetched r (framedOf mem map2) ≡ fetching pc (framedOf mem map)
+    stop-second d b r f k = stopped mem map2 second d b r _ f k (from-second ∙ rw f)
+
+    module _ (y : ℕ) (f2 : second ≡ At y) (h2 : ℕ) (eh2 : h2 ≡ readField (framedOf mem map2) on 2 0)
+        (last : ℕ) (el : last ≡ past pc 4) (third : Look) (map3 : List ℕ)
+        (e3 : third ≡ lookWanted (ltb 2 n) map2 (length mem) last) (m3 : map3 ≡ wantedMarks (ltb 2 n) map2 (length mem) last) where
+      from-third : fetching pc (framedOf mem map) ≡ fromThere third last (λ h3. done (T.Whole h1 h2 h3)) (framedOf mem map3)
+      from-third =
+          from-second
+          ∙ rw (f2, ← eh2, ← el) (wanted-comes mem map2 last (λ h3. done (T.Whole h1 h2 h3)) (ltb 2 n) ∙ rw (← e3, ← m3))
+
+      pub stop-third : (d : Cause) (b : ℕ) (r : Fetched) → third ≡ Refused d b → r ≡ stopOf third
+          → fetched r (framedOf mem map3) ≡ fetching pc (framedOf mem map)
+      stop-third d b r f k = stopped mem map3 third d b r _ f k (from-third ∙ rw f)
+
+      pub whole-text : (z h3 : ℕ) → third ≡ At z → h3 ≡ readField (framedOf mem map3) last 2 0
+          → fetched (T.Whole h1 h2 h3) (framedOf mem map3) ≡ fetching pc (framedOf mem map)
+      unfolding interp
+      whole-text z h3 f eh3 = sym (from-third ∙ rw (f, ← eh3))

@@ -22,7 +22,7 @@ use Rattle.pages.specs.Framed.{Framed, framedOf, accessedAt, writtenAt, lookIn,
 use Rattle.pages.specs.Compact.{ordinary, compact, realOf}
 use Rattle.words.proofs.Tests.{left-of, right-of}
 use Rattle.pages.proofs.Marks.{Quiet, changed, accessed-quiet, written-quiet, base-quiet, accessed-old}
-use Rattle.machine.specs.Prog.{Prog, done, fail, look, get, put, Answer, finished, refused, after, interp}
+use Rattle.machine.specs.Prog.{Prog, done, fail, look, get, put, Answer, finished, refused, keeps, after, interp}
 use Rattle.machine.specs.Store.{framed}
 use Rattle.machine.specs.Cpu.{Cpu}
 use Rattle.machine.specs.Step.{step}
@@ -31,9 +31,8 @@ use Rattle.actions.specs.declared.Out.{Out}
 use Rattle.actions.specs.declared.Out.the-variants.{Done, Stop}
 use Rattle.actions.specs.Answered.{cpuOf, told, doing}
 use Rattle.engine.specs.declared.Window.{Window}
-use Rattle.engine.specs.Entry.{Held, Ready, inside, whole, markedText}
+use Rattle.engine.specs.Entry.{Held, Ready, inside}
 use Rattle.engine.proofs.Runs.{was-done}
-use Rattle.engine.proofs.Marked.{marked-once}
 
 -- what marks keep of a page's word, every program keeps
 module _ (P : ℕ → Type 0) (pa : (w : ℕ) → P w → P (accessed w)) (pw : (w : ℕ) → P w → P (written w)) (q : ℕ) where
@@ -68,10 +67,10 @@ module _ (P : ℕ → Type 0) (pa : (w : ℕ) → P w → P (accessed w)) (pw : 
   kept-by (done x) kept s r t e h = let z : s ≡ t = cc in subst (λ (u : Framed). P (wordOf (u .map) q)) z h
   kept-by (fail n a) kept s r t e h = absurd (let z : _≡_ {A = ℕ} 0 1 = cc in omega arith)
   kept-by (look acc a p) kept s r t e h =
-      go (verdictOf (lookIn s acc a)) e (λ k. kept-by p kept (noted s a) r t k (changed-has accessed pa (s .map) (pageOf a) h))
+      go (verdictOf (lookIn s acc a)) e (λ k. kept-by p (keeps framed acc a kept) (noted s a) r t k (changed-has accessed pa (s .map) (pageOf a) h))
     where
-      go : (v : Verdict) → after v (λ u. interp framed p kept u) (noted s a) a kept ≡ finished r t
-          → (interp framed p kept (noted s a) ≡ finished r t → P (wordOf (t .map) q)) → P (wordOf (t .map) q)
+      go : (v : Verdict) → after v (λ u. interp framed p (keeps framed acc a kept) u) (noted s a) a kept ≡ finished r t
+          → (interp framed p (keeps framed acc a kept) (noted s a) ≡ finished r t → P (wordOf (t .map) q)) → P (wordOf (t .map) q)
       go fine k later = later k
       go (bad c) k later = absurd (let z : _≡_ {A = ℕ} 0 1 = cc in omega arith)
   kept-by (get a p) kept s r t e h = kept-by (p (readByte s a)) kept s r t e h
@@ -123,22 +122,20 @@ page-real map first page e =
     rw (z, y) (omega arith)
 
 module _ (w : Window) (mem map : List ℕ) (ready : Ready w map (length mem)) (regs : List ℕ) (c : Now) where
-  ready-done : (p : Cpu → Prog Cpu) (out : Out) (n : Now) (regs′ mem′ map′ : List ℕ)
-      → told out regs′ c (framedOf mem′ map′) ≡ doing p regs c (framedOf mem map) → out ≡ Done n → Ready w map′ (length mem)
-  unfolding told
-  ready-done p out n regs′ mem′ map′ t o =
-      λ l. (ready l .0, ready l .1, ready l .2, kept-by (λ (x : ℕ). Held (w .base) x (length mem)) (held-accessed (w .base) (length mem)) (held-written (w .base) (length mem)) (pageOf (w .first)) (p (cpuOf regs c)) (framedOf mem map) (framedOf mem map) (cpuOf regs′ n) (framedOf mem′ map′) ended (ready l .3))
-    where
-      ended : interp framed (p (cpuOf regs c)) (framedOf mem map) (framedOf mem map) ≡ finished (cpuOf regs′ n) (framedOf mem′ map′)
-      ended =
-          was-done (cpuOf regs c) (interp framed (p (cpuOf regs c)) (framedOf mem map) (framedOf mem map)) (cpuOf regs′ n) (framedOf mem′ map′)
-          (ap (λ (y : Out). told y regs′ c (framedOf mem′ map′)) (sym o) ∙ t)
-
   pub ready-after : (out : Out) (n : Now) (regs′ mem′ map′ : List ℕ)
       → told out regs′ c (framedOf mem′ map′) ≡ doing step regs c (framedOf mem map) → out ≡ Done n → length mem′ ≡ length mem → Ready w map′ (length mem′)
+  unfolding told
   ready-after out n regs′ mem′ map′ t o e =
-      let r : Ready w map′ (length mem) = ready-done step out n regs′ mem′ map′ t o in
-      λ l. (r l .0, r l .1, r l .2, subst (λ (x : ℕ). Held (w .base) (wordOf map′ (pageOf (w .first))) x) (sym e) (r l .3))
+      λ l. (ready l .0, ready l .1, ready l .2, subst (λ (x : ℕ). Held (w .base) (wordOf map′ (pageOf (w .first))) x) (sym e) (still-held (ready l .3)))
+    where
+      ended : interp framed (step (cpuOf regs c)) (framedOf mem map) (framedOf mem map) ≡ finished (cpuOf regs′ n) (framedOf mem′ map′)
+      ended =
+          was-done (cpuOf regs c) (interp framed (step (cpuOf regs c)) (framedOf mem map) (framedOf mem map)) (cpuOf regs′ n) (framedOf mem′ map′)
+          (ap (λ (y : Out). told y regs′ c (framedOf mem′ map′)) (sym o) ∙ t)
+
+      still-held : Held (w .base) (wordOf map (pageOf (w .first))) (length mem) → Held (w .base) (wordOf map′ (pageOf (w .first))) (length mem)
+      still-held =
+          kept-by (λ (x : ℕ). Held (w .base) x (length mem)) (held-accessed (w .base) (length mem)) (held-written (w .base) (length mem)) (pageOf (w .first)) (step (cpuOf regs c)) (framedOf mem map) (framedOf mem map) (cpuOf regs′ n) (framedOf mem′ map′) ended
 
 -- in the window
 module _ (w : Window) (mem map : List ℕ) (ready : Ready w map (length mem)) (pc : ℕ) (b : Bool) (eb : b ≡ inside w pc) (t : b ≡ true) where
@@ -188,15 +185,10 @@ module _ (w : Window) (mem map : List ℕ) (ready : Ready w map (length mem)) (p
       rw (lt-ltb pc 2097152 below, le-leb (pc % 4096 + 6) 4096 (omega (arith, six-left)), held .fair, le-leb (realOf map pc + 6) (length mem) i)
 
   -- the page has its mark
-  pub window-marked : (regs : List ℕ) (c : Now) (h1 h2 h3 : ℕ) (out : Out) (regs′ mem′ map′ : List ℕ)
-      → told out regs′ c (framedOf mem′ map′) ≡ doing (whole h1 h2 h3) regs c (framedOf mem map) → map′ ≡ markedText out map′ pc h1
-  window-marked regs c h1 h2 h3 out regs′ mem′ map′ d = go out refl
-    where
-      go : (o : Out) → out ≡ o → map′ ≡ markedText o map′ pc h1
-      go (Stop k a) e = refl
-      go (Done n) e =
-          let r = ready-done w mem map ready regs c (whole h1 h2 h3) out n regs′ mem′ map′ d e open-now .3 in
-          marked-once map′ map′ pc h1 (Done n) n refl (omega (arith, below)) six-left (seen-marked map′ pc (pageOf (w .first)) (unfold pageOf in on-page) (r .seen))
+  pub window-marked : map ≡ accessedAt map pc
+  window-marked =
+      let s : bitG (wordOf map (pageOf pc)) ≡ 1 = held .seen in
+      seen-marked map pc (pageOf pc) (unfold pageOf in refl) s
 
 -- opened
 pub shut-ready : (w : Window) (map : List ℕ) (size : ℕ) → w .len ≡ 0 → Ready w map size

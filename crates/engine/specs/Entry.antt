@@ -1,5 +1,5 @@
--- For the engine's inner functions: an instruction's halfwords, what the action does with them, the marks that it sets where it completes,
--- and the answers of a step and a run.
+-- For the engine's inner functions: an instruction's halfwords and their marks, what the action does with them, and the answers of a step
+-- and a run.
 use Prim.Native.Nat.{ℕ, _+_, _-_, _/_, _%_, _<_, _≤_}
 use mathlib.Core.Path.{_≡_}
 use mathlib.Core.List.{List, [], _∷_}
@@ -8,21 +8,24 @@ use lib.Dec.{eqb, leb, ltb}
 use lib.ListN.{length}
 use Rattle.words.specs.Pick.{pick, both}
 use Rattle.words.specs.Said.{Said, says}
-use Rattle.pages.specs.Word.{bitG, base, pageOf, wordOf}
+use Rattle.pages.specs.Word.{bitG, base, next, pageOf, wordOf}
 use Rattle.pages.specs.Compact.{ordinary}
 use Rattle.pages.specs.declared.Access.the-variants.{Fetch}
 use Rattle.pages.specs.declared.Look.{Look}
 use Rattle.pages.specs.declared.Look.the-variants.{At, Refused}
 use Rattle.pages.specs.Tests.{numberOf}
-use Rattle.pages.specs.Framed.{Framed}
+use Rattle.pages.specs.Look.{lookOf}
+use Rattle.pages.specs.Framed.{Framed, accessedAt}
 use Rattle.code.specs.declared.Action.the-variants.{Rr, Rx, Rs, Si, Ss}
 use Rattle.code.specs.declared.Found.{Found}
 use Rattle.code.specs.declared.Found.the-variants.{Known, Unknown}
 use Rattle.code.specs.Table.{actionOf}
 use Rattle.code.specs.Formats.{opOf, lengthOf, rrOf, rxOf, rsOf, siOf, ssOf}
-use Rattle.fields.specs.Direct.{lookOne, noteField, readField}
+use Rattle.fields.specs.Direct.{lookOne}
 use Rattle.machine.specs.declared.Reply.{Reply}
-use Rattle.machine.specs.Prog.{Prog, fail}
+use Rattle.machine.specs.Prog.{Prog, done, fail, Answer, finished, refused, interp}
+use Rattle.machine.specs.Fields.{gets, halfword}
+use Rattle.machine.specs.Store.{framed}
 use Rattle.machine.specs.Run.{Result}
 use Rattle.machine.specs.Cpu.{Cpu}
 use Rattle.machine.specs.Rr.{rr}
@@ -31,8 +34,6 @@ use Rattle.machine.specs.Rs.{rs}
 use Rattle.machine.specs.Si.{si}
 use Rattle.machine.specs.Ss.{ss}
 use Rattle.actions.specs.declared.Now.{Now}
-use Rattle.actions.specs.declared.Out.{Out}
-use Rattle.actions.specs.declared.Out.the-variants.{Done, Stop}
 use Rattle.actions.specs.Answered.{cpuOf}
 use Rattle.engine.specs.declared.Fetched.{Fetched}
 use Rattle.engine.specs.declared.Fetched.the-variants as T
@@ -56,29 +57,47 @@ halves (Known x) = lengthOf x / 2
 abbrev pub halvesOf : ℕ → ℕ
 halvesOf h1 = halves (actionOf (opOf h1))
 
--- a halfword's look-up that is wanted and refuses, or the text as it is
-abbrev pub orStop : Look → Fetched → Fetched
-orStop (At r) t = t
-orStop (Refused c a) t = T.Stop (numberOf c) a
+-- a halfword's look-up, byte by byte, leaves G on the page of each byte that it finds
+abbrev pub markedIf : Look → List ℕ → List ℕ → List ℕ
+markedIf (At r) marked map = marked
+markedIf (Refused c a) marked map = map
 
-abbrev pub unless : Bool → Look → Fetched → Fetched
-unless b l t = pick b (orStop l t) t
+unfoldable pub halfMarks : List ℕ → ℕ → ℕ → List ℕ
+halfMarks map size a =
+    markedIf (lookOf map size Fetch a)
+    (markedIf (lookOf map size Fetch (next a)) (accessedAt (accessedAt map a) (next a)) (accessedAt map a))
+    map
 
-abbrev pub lookHalf : Framed → ℕ → Look
-lookHalf s a = lookOne (s .map) (length (s .mem)) Fetch a 2
+-- a halfword that the operation has or lacks: its look-up and its marks, and what is done with it; one that it lacks is read all the same
+abbrev pub lookWanted : Bool → List ℕ → ℕ → ℕ → Look
+lookWanted b map size a = pick b (lookOne map size Fetch a 2) (At 0)
 
--- the second and the third halfword of n, and then the first: the lowest refusal comes first
-abbrev pub furtherOf : Framed → ℕ → ℕ → Fetched → Fetched
-furtherOf s pc n t =
-    unless (ltb 1 n) (lookHalf s (past pc 2)) (unless (ltb 2 n) (lookHalf s (past pc 4)) t)
+abbrev pub wantedMarks : Bool → List ℕ → ℕ → ℕ → List ℕ
+wantedMarks b map size a = pick b (halfMarks map size a) map
 
-abbrev pub wholeOf : Framed → ℕ → Fetched
-wholeOf s pc = T.Whole (readField s pc 2 0) (readField s (past pc 2) 2 0) (readField s (past pc 4) 2 0)
+abbrev pub wantedHalf : {R : Type 0} → Bool → ℕ → (ℕ → Prog R) → Prog R
+wantedHalf b a k = pick b (halfword a k) (gets a 2 0 k)
 
--- the halfwords from pc on; those that the operation lacks are read all the same, and nobody looks at them
-unfoldable pub fetchedOf : Framed → ℕ → Fetched
-fetchedOf s pc =
-    orStop (lookHalf s pc) (furtherOf s pc (halvesOf (readField s pc 2 0)) (wholeOf s pc))
+-- the halfwords from pc on as a program, in the step's order: n of them are fetched, and the rest is read and not looked at
+abbrev pub furtherText : ℕ → ℕ → ℕ → Prog Fetched
+furtherText n pc h1 =
+    wantedHalf (ltb 1 n) (past pc 2) (λ h2. wantedHalf (ltb 2 n) (past pc 4) (λ h3. done (T.Whole h1 h2 h3)))
+
+unfoldable pub text : ℕ → Prog Fetched
+text pc = halfword pc (λ h1. furtherText (halvesOf h1) pc h1)
+
+-- what it comes to, and a text in the enum with the store at exit as such an answer
+abbrev pub fetching : ℕ → Framed → Answer Fetched Framed
+fetching pc s = interp framed (text pc) s s
+
+abbrev pub fetched : Fetched → Framed → Answer Fetched Framed
+fetched (T.Whole h1 h2 h3) s = finished (T.Whole h1 h2 h3) s
+fetched (T.Stop n a) s = refused n a s
+
+-- a look-up's refusal, handed on (asked of a refusal only)
+abbrev pub stopOf : Look → Fetched
+stopOf (Refused c a) = T.Stop (numberOf c) a
+stopOf (At r) = T.Stop 0 0
 
 -- the action on halfwords that are in hand
 abbrev pub actWhole : Found → ℕ → ℕ → ℕ → Cpu → Prog Cpu
@@ -91,21 +110,6 @@ actWhole (Known (Ss x)) h1 h2 h3 c = ss x (ssOf h1 h2 h3) c
 
 unfoldable pub whole : ℕ → ℕ → ℕ → Cpu → Prog Cpu
 whole h1 h2 h3 c = actWhole (actionOf (opOf h1)) h1 h2 h3 c
-
--- G on the page of each byte of a halfword that was fetched, and of each of n halfwords from pc on
-abbrev pub markHalf : Bool → List ℕ → ℕ → List ℕ
-markHalf b map a = pick b (noteField map a 2) map
-
-abbrev pub markFurther : ℕ → List ℕ → ℕ → List ℕ
-markFurther n map pc = markHalf (ltb 1 n) (markHalf (ltb 2 n) map (past pc 4)) (past pc 2)
-
-unfoldable pub markHalves : ℕ → List ℕ → ℕ → List ℕ
-markHalves n map pc = noteField (markFurther n map pc) pc 2
-
--- the map after an instruction with this first halfword: a refused one sets no mark
-abbrev pub markedText : Out → List ℕ → ℕ → ℕ → List ℕ
-markedText (Done n) map pc h1 = markHalves (halvesOf h1) map pc
-markedText (Stop k p) map pc h1 = map
 
 -- a run's answer and what the lists hold, as the definitions' result
 abbrev pub ranAs : Ran → List ℕ → Framed → Result Cpu Framed

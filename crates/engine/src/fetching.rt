@@ -8,7 +8,7 @@ ghost use lib.Dec.{eqb};
 ghost use lib.ListN.{length};
 ghost use Rattle.pages.specs.Word.{bitG, wordOf};
 ghost use Rattle.pages.specs.Framed.{framedOf};
-ghost use Rattle.engine.specs.Entry.{Ready, inside, fetchedOf};
+ghost use Rattle.engine.specs.Entry.{Ready, inside, fetched, fetching};
 
 // No page: nothing lies in it.
 pub fn shut() -> Window
@@ -22,7 +22,7 @@ pub fn shut() -> Window
 }
 
 // Whether an instruction may begin at pc, with six bytes in the window.
-pub fn is_inside(w: Window, pc: u32) -> bool
+fn is_inside(w: Window, pc: u32) -> bool
     ensures { λ r. ⌜ r ≡ inside w pc ⌝ }
 {
     if w.first <= pc {
@@ -71,10 +71,10 @@ pub fn follow(mem: &[u8], map: &[u16], w: Window, pc: u32) -> Window
     open(mem, map, pc)
 }
 
-// The halfwords from pc on.
-pub fn text(mem: &[u8], map: &[u16], w: Window, pc: u32) -> Fetched
+// The halfwords from pc on, and their marks. In the window the page has its mark already.
+pub fn text(mem: &[u8], map: &mut [u16], w: Window, pc: u32) -> Fetched
     requires { ⌜ Ready w (now map) (length (now mem)) ⌝ }
-    ensures { λ r. ⌜ r ≡ fetchedOf (framedOf (now (mem .entry)) (now (map .entry))) pc ⌝ }
+    ensures { λ r. ⌜ fetched r (framedOf (now (mem .entry)) (now (map .exit))) ≡ fetching pc (framedOf (now (mem .entry)) (now (map .entry))) ⌝ }
 {
     if is_inside(w, pc) {
         let r = w.base + (pc - w.first) as usize;

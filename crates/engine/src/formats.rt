@@ -1,4 +1,4 @@
-// An instruction's halfwords: read first, all of them; then its action; then the marks of their pages.
+// An instruction's halfwords, and the marks of the pages that they are fetched from; then its action.
 use crate::Fetched;
 use actions::Now;
 use actions::Out;
@@ -7,10 +7,11 @@ use code::Found;
 use pages::Access;
 use pages::Look;
 ghost use mathlib.Core.Path.{_≡_};
-ghost use Prim.Native.Nat.{_<_};
 ghost use Rattle.pages.specs.Framed.{framedOf};
 ghost use Rattle.actions.specs.Answered.{told, doing};
-ghost use Rattle.engine.specs.Entry.{past, halvesOf, orStop, unless, lookHalf, fetchedOf, whole, markHalf, markHalves, markedText};
+ghost use Rattle.fields.specs.Direct.{lookOne};
+ghost use Rattle.pages.specs.declared.Access.the-variants.{Fetch};
+ghost use Rattle.engine.specs.Entry.{past, halvesOf, stopOf, halfMarks, lookWanted, wantedMarks, fetched, fetching, whole};
 
 // The address so many bytes past the counter.
 fn past_of(pc: u32, n: u32) -> u32
@@ -33,56 +34,83 @@ fn halves_of(h1: u16) -> u32
     if h1 < 49152 { 2 } else { 3 }
 }
 
-// A look-up's refusal, in place of the text.
-fn stop_of(look: Look, text: Fetched) -> Fetched
-    ensures { λ r. ⌜ r ≡ orStop look text ⌝ }
+// A look-up's refusal, handed on in place of the text (asked of a refusal only).
+fn stop_of(look: Look) -> Fetched
+    ensures { λ r. ⌜ r ≡ stopOf look ⌝ }
 {
-    let Look::At(_) = look else {
-        let out = actions::refusal(look);
-        let Out::Stop(number, place) = out else {
-            return text;
-        };
-        return Fetched::Stop(number, place);
-    };
-    text
+    match look {
+        Look::Refused(cause, at) => Fetched::Stop(actions::number_of(cause), at),
+        Look::At(_) => Fetched::Stop(0, 0),
+    }
 }
 
-// The text, unless its halfword at `at` is wanted and the look-up refuses it.
-fn checked(mem: &[u8], map: &[u16], at: u32, wanted: bool, text: Fetched) -> Fetched
-    ensures { λ r. ⌜ r ≡ unless wanted (lookHalf (framedOf (now (mem .entry)) (now (map .entry))) at) text ⌝ }
+// The two bytes of a halfword are looked up for fetching, and the page of each is marked as it is found: the first refusal, or the first
+// byte's real address.
+fn look_half(map: &mut [u16], size: usize, at: u32) -> Look
+    ensures { λ r. ⌜ (r ≡ lookOne (now (map .entry)) size Fetch at 2) × (now (map .exit) ≡ halfMarks (now (map .entry)) size at) ⌝ }
+{
+    let first = lookup::look_up(map, size, Access::Fetch, at);
+    let Look::At(_) = first else {
+        return first;
+    };
+    lookup::note(map, at);
+    let behind = lookup::next_of(at);
+    let second = lookup::look_up(map, size, Access::Fetch, behind);
+    let Look::At(_) = second else {
+        return second;
+    };
+    lookup::note(map, behind);
+    first
+}
+
+// The same of a halfword that the operation has; one that it lacks is not looked up.
+fn look_wanted(map: &mut [u16], size: usize, at: u32, wanted: bool) -> Look
+    ensures { λ r. ⌜ (r ≡ lookWanted wanted (now (map .entry)) size at) × (now (map .exit) ≡ wantedMarks wanted (now (map .entry)) size at) ⌝ }
 {
     if wanted {
-        let look = fields::look_one(map, mem.len(), Access::Fetch, at, 2);
-        return stop_of(look, text);
+        return look_half(map, size, at);
     }
-    text
+    Look::At(0)
 }
 
-// The halfwords from the counter on, each looked up by itself: the last first, so that the lowest refusal is the one that stays.
-fn text_each(mem: &[u8], map: &[u16], pc: u32) -> Fetched
-    ensures { λ r. ⌜ r ≡ fetchedOf (framedOf (now (mem .entry)) (now (map .entry))) pc ⌝ }
+// The halfwords from the counter on, each looked up by itself, in document 01's order: the first refusal is handed on at once, and the pages
+// of those before it have their marks.
+fn text_each(mem: &[u8], map: &mut [u16], pc: u32) -> Fetched
+    ensures { λ r. ⌜ fetched r (framedOf (now (mem .entry)) (now (map .exit))) ≡ fetching pc (framedOf (now (mem .entry)) (now (map .entry))) ⌝ }
 {
-    let second = past_of(pc, 2);
-    let third = past_of(pc, 4);
+    let size = mem.len();
+    let first = look_half(map, size, pc);
+    let Look::At(_) = first else {
+        return stop_of(first);
+    };
     let h1 = fields::read_half(mem, map, pc);
-    let h2 = fields::read_half(mem, map, second);
-    let h3 = fields::read_half(mem, map, third);
     let n = halves_of(h1);
-    let whole = Fetched::Whole(h1, h2, h3);
-    let from_third = checked(mem, map, third, 2 < n, whole);
-    let from_second = checked(mem, map, second, 1 < n, from_third);
-    checked(mem, map, pc, true, from_second)
+    let on = past_of(pc, 2);
+    let second = look_wanted(map, size, on, 1 < n);
+    let Look::At(_) = second else {
+        return stop_of(second);
+    };
+    let h2 = fields::read_half(mem, map, on);
+    let last = past_of(pc, 4);
+    let third = look_wanted(map, size, last, 2 < n);
+    let Look::At(_) = third else {
+        return stop_of(third);
+    };
+    let h3 = fields::read_half(mem, map, last);
+    Fetched::Whole(h1, h2, h3)
 }
 
-// The halfwords from the counter on: by one look-up where the six bytes are compact. Those that the operation lacks are read with the rest.
-pub fn text(mem: &[u8], map: &[u16], pc: u32) -> Fetched
-    ensures { λ r. ⌜ r ≡ fetchedOf (framedOf (now (mem .entry)) (now (map .entry))) pc ⌝ }
+// The halfwords from the counter on, and their marks: by one look-up where the six bytes are compact. Those that the operation lacks are
+// read with the rest.
+pub fn text(mem: &[u8], map: &mut [u16], pc: u32) -> Fetched
+    ensures { λ r. ⌜ fetched r (framedOf (now (mem .entry)) (now (map .exit))) ≡ fetching pc (framedOf (now (mem .entry)) (now (map .entry))) ⌝ }
 {
     if lookup::is_compact(map, mem.len(), Access::Fetch, pc, 6) {
         let r = lookup::real_at(map, pc);
         let h1 = fields::flat::half_of(mem, r);
         let h2 = fields::flat::half_of(mem, r + 2);
         let h3 = fields::flat::half_of(mem, r + 4);
+        lookup::note(map, pc);
         return Fetched::Whole(h1, h2, h3);
     }
     text_each(mem, map, pc)
@@ -110,36 +138,5 @@ pub fn finish(
         Action::Rs(y) => rs_ss::rs::execute(regs, mem, map, c, y, decode::split_rs(h1, h2)),
         Action::Si(y) => rx_si::si::execute(regs, mem, map, c, y, decode::split_si(h1, h2)),
         Action::Ss(y) => rs_ss::ss::execute(regs, mem, map, c, y, decode::split_ss(h1, h2, h3)),
-    }
-}
-
-fn mark_half(map: &mut [u16], at: u32, wanted: bool)
-    ensures { λ _. ⌜ now (map .exit) ≡ markHalf wanted (now (map .entry)) at ⌝ }
-{
-    if wanted {
-        fields::note_field(map, at, 2);
-    }
-}
-
-// G set on the pages of so many halfwords.
-fn mark_halves(map: &mut [u16], pc: u32, n: u32)
-    ensures { λ _. ⌜ now (map .exit) ≡ markHalves n (now (map .entry)) pc ⌝ }
-{
-    mark_half(map, past_of(pc, 4), 2 < n);
-    mark_half(map, past_of(pc, 2), 1 < n);
-    fields::note_field(map, pc, 2);
-}
-
-// The marks of an instruction that completed. Six bytes that start at or below displacement 4,090 have one page.
-pub fn mark(map: &mut [u16], pc: u32, h1: u16, out: Out)
-    requires { ⌜ pc < 16777216 ⌝ }
-    ensures { λ _. ⌜ now (map .exit) ≡ markedText out (now (map .entry)) pc h1 ⌝ }
-{
-    if let Out::Done(_) = out {
-        if pc % 4096 <= 4090 {
-            lookup::note(map, pc);
-            return;
-        }
-        mark_halves(map, pc, halves_of(h1));
     }
 }

@@ -16,7 +16,7 @@ ghost use Rattle.actions.specs.Answered.{cpuOf, told, doing};
 ghost use lib.ListN.{length};
 ghost use Rattle.engine.specs.Entry.{Ready, ranAs};
 
-// One step. In the window the page has its mark already.
+// One step: its halfwords, and then its action, which finds the marks of the fetch set.
 pub fn step_once(regs: &mut [u32], mem: &mut [u8], map: &mut [u16], c: Now, w: Window) -> Out
     requires { ⌜ Ready w (now map) (length (now mem)) ⌝ }
     ensures { λ r. ⌜ told r (now (regs .exit)) c (framedOf (now (mem .exit)) (now (map .exit))) ≡ doing step (now (regs .entry)) c (framedOf (now (mem .entry)) (now (map .entry))) ⌝ }
@@ -28,14 +28,7 @@ pub fn step_once(regs: &mut [u32], mem: &mut [u8], map: &mut [u16], c: Now, w: W
     let text = fetching::text(mem, map, w, pc);
     match text {
         Fetched::Stop(number, place) => Out::Stop(number, place),
-        Fetched::Whole(h1, h2, h3) => {
-            let out = formats::finish(regs, mem, map, c, h1, h2, h3);
-            if fetching::is_inside(w, pc) {
-                return out;
-            }
-            formats::mark(map, pc, h1, out);
-            out
-        }
+        Fetched::Whole(h1, h2, h3) => formats::finish(regs, mem, map, c, h1, h2, h3),
     }
 }
 

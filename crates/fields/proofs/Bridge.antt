@@ -20,6 +20,7 @@ use Rattle.machine.specs.Prog.{Prog, look, Answer, finished, refused, after, in
 use Rattle.machine.specs.Fields.{looks, gets, puts, moves, compares}
 use Rattle.machine.specs.Store.{framed}
 use Rattle.machine.proofs.MarksLast.{blind}
+use Rattle.machine.proofs.Operands.{ForOperand, keeps-none}
 use Rattle.fields.specs.Direct.{orElse, lookField, noteField, readField, writeField, moveField, compareField}
 
 -- what follows a look-up of a field: a refusal, or the rest
@@ -38,12 +39,14 @@ unfolding lookField
 field-blind s b acc a zero rest = refl
 field-blind s b acc a (suc n) rest = rw (blind s b acc a, field-blind s b acc (next a) n rest)
 
-pub looks-is : {R : Type 0} (acc : Access) (a n : ℕ) (k : Prog R) (kept s : Framed) (r : ℕ)
+-- an operand's bytes: a refusal keeps nothing of their look-ups
+pub looks-is : {R : Type 0} (acc : Access) → ForOperand acc → (a n : ℕ) (k : Prog R) (kept s : Framed) (r : ℕ)
     → interp framed (looks acc a n k) kept s
     ≡ afterLook (lookField (s .map) (length (s .mem)) acc a n (At r)) (λ t. interp framed k kept t) (notedField s a n) kept
 unfolding looks interp lookField noteField
-looks-is acc a zero k kept s r = refl
-looks-is acc a (suc n) k kept s r = go (lookIn s acc a) refl (looks-is acc (next a) n k kept (noted s a) r)
+looks-is acc op a zero k kept s r = refl
+looks-is acc op a (suc n) k kept s r =
+    rw (keeps-none framed acc op a kept) (go (lookIn s acc a) refl (looks-is acc op (next a) n k kept (noted s a) r))
   where
     go : (l : Look) → lookIn s acc a ≡ l
         → interp framed (looks acc (next a) n k) kept (noted s a)

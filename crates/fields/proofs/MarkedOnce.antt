@@ -1,49 +1,18 @@
--- Marks: one on a page, twice, is the mark once; a field within a page is noted once.
+-- Marks: a field within a page is noted once.
 use Prim.Native.Nat.{ℕ, zero, suc, _+_, _-_, _%_, _<_, _≤_}
 use native.Mathlib.Omega.{arith}
 use native.Mathlib.Nat.{add-zero}
-use native.Mathlib.Decide.{decLt}
 use mathlib.Core.Path.{_≡_, refl, sym, _∙_, ap}
 use mathlib.Core.Bool.{Bool, true, false}
 use mathlib.Core.List.{List}
 use borrow.Author.Tests.{lt-ltb, le-leb, lt-leb, leb-true, ltb-true}
 use lib.Dec.{leb, ltb}
-use lib.ListN.{length, getD, set}
-use lib.Seq.{set-set, set-out, getD-set-same}
 use Rattle.words.specs.Pick.{both}
-use Rattle.pages.specs.Word.{pageOf, next, wordOf, accessed, written}
-use Rattle.pages.specs.Framed.{accessedAt, writtenAt}
-use Rattle.pages.proofs.Marks.{changed}
+use Rattle.pages.specs.Word.{pageOf, next}
+use Rattle.pages.specs.Framed.{accessedAt}
+use Rattle.pages.proofs.Marks.{accessed-again}
 use Rattle.words.proofs.Tests.{left-of, right-of}
 use Rattle.fields.specs.Direct.{onPage, noteField}
-
--- a mark on a page, twice, is the mark once
-again : (f : ℕ → ℕ) → ((x : ℕ) → f (f x) ≡ f x) → (map : List ℕ) (p : ℕ) → changed f p (changed f p map) ≡ changed f p map
-unfolding wordOf
-again f k map p = go (decLt p (length map))
-  where
-    go : Dec (p < length map) → set (set map p (f (getD map p 0))) p (f (getD (set map p (f (getD map p 0))) p 0)) ≡ set map p (f (getD map p 0))
-    go (yes h) =
-        ap (λ (v : ℕ). set (set map p (f (getD map p 0))) p (f v)) (getD-set-same map p (f (getD map p 0)) 0 h)
-        ∙ set-set map p (f (getD map p 0)) (f (f (getD map p 0)))
-        ∙ ap (λ (v : ℕ). set map p v) (k (getD map p 0))
-    go (no h) =
-        let o : length map ≤ p = omega arith in
-        ap (λ (m : List ℕ). set m p (f (getD m p 0))) (set-out map p (f (getD map p 0)) o)
-
-pub accessed-again : (map : List ℕ) (a b : ℕ) → pageOf b ≡ pageOf a → accessedAt (accessedAt map a) b ≡ accessedAt map a
-unfolding accessedAt
-accessed-again map a b h = rw h (again accessed twice map (pageOf a))
-  where
-    twice : (x : ℕ) → accessed (accessed x) ≡ accessed x
-    twice x = unfold accessed in omega arith
-
-pub written-again : (map : List ℕ) (a b : ℕ) → pageOf b ≡ pageOf a → writtenAt (writtenAt map a) b ≡ writtenAt map a
-unfolding writtenAt
-written-again map a b h = rw h (again written twice map (pageOf a))
-  where
-    twice : (x : ℕ) → written (written x) ≡ written x
-    twice x = unfold written in omega arith
 
 -- noted once for a field within a page
 pub note-once : (map : List ℕ) (a k : ℕ) → 0 < k → a % 4096 + k ≤ 4096 → a < 16777216 → accessedAt map a ≡ noteField map a k

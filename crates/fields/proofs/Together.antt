@@ -23,10 +23,9 @@ use Rattle.pages.specs.Framed.{Framed, framedOf, accessedAt, writtenAt, readByt
 use Rattle.pages.specs.Compact.{realOf, compact}
 use Rattle.pages.proofs.LookLaws.{found-less}
 use Rattle.pages.proofs.CompactLaws.{compact-found, compact-next, compact-page, compact-some, compact-inside, compact-below}
-use Rattle.pages.proofs.Marks.{accessed-quiet, written-quiet, look-quiet}
+use Rattle.pages.proofs.Marks.{accessed-quiet, written-quiet, look-quiet, written-again}
 use Rattle.fields.specs.declared.Field.{Field}
 use Rattle.fields.specs.Direct.{orElse, lookField, lookFields, lookOne, noteField, readField, writeField, moveField, compareField, flat, flatPut, flatMove, flatCompare}
-use Rattle.fields.proofs.MarkedOnce.{written-again}
 use Rattle.fields.proofs.ByteLoops.{pred-suc}
 
 -- n bytes from a on, found from r on

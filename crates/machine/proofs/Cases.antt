@@ -1,6 +1,6 @@
--- Document 01's checks at the edges, the starred ones first, and some of E2's: one table, and one proof, by computation.
+-- Document 01's checks at the edges, the starred ones first, and some of E2's and E4's: one table, and one proof, by computation.
 -- Instructions are run from memory, by the machine's own step and run.
-use Prim.Native.Nat.{ℕ, suc}
+use Prim.Native.Nat.{ℕ, suc, _+_}
 use mathlib.Core.Path.{_≡_, refl}
 use mathlib.Core.List.{List, [], _∷_, _++_}
 use lib.ListN.{getD, take, drop, replicate}
@@ -78,6 +78,14 @@ moved o = seen 10 o ++ take 6 (drop 12296 (o .mem))
 abbrev seenPair : Outcome → List ℕ
 seenPair o = seen 10 o ++ take 2 (drop 2 (o .regs))
 
+-- these page words from page 10 on, and bytes from this place on in frames 3, 4, .., on which pages 10, 11, .. lie; registers from 1 on
+abbrev overPages : ℕ → List ℕ → List ℕ → List ℕ → ℕ → Given
+overPages place bytes words regs pc = given (laid 65536 (12288 + place) bytes) (laid 512 10 words) (laid 16 1 regs) pc 0 0
+
+-- number, place, count, counter, and the words of pages 10 to 13
+abbrev marks : Outcome → List ℕ
+marks o = o .reply .number ∷ o .reply .place ∷ o .reply .count ∷ o .reply .pc ∷ take 4 (drop 10 (o .map))
+
 -- a look-up's number and its real address, or the place of its refusal
 abbrev found : Look → List ℕ
 found l = lookSays l .number ∷ lookSays l .values ∷ []
@@ -109,7 +117,7 @@ starred =
     ∷ case (seen 10 (doing 0x3803 (0x58 ∷ 0x10 ∷ 0x20 ∷ 0x08 ∷ 0 ∷ 0 ∷ 0 ∷ 0 ∷ 0x12 ∷ 0x34 ∷ 0x56 ∷ 0x78 ∷ []) (0 ∷ 0xa000 ∷ [])))
     (0 ∷ 0 ∷ 1 ∷ 0xa004 ∷ 0 ∷ 0x12345678 ∷ 0x7803 ∷ [])
     ∷ case (seen 10 (doing 0x3803 (0x50 ∷ 0x10 ∷ 0x20 ∷ 0x08 ∷ []) (9 ∷ 0xa000 ∷ [])))
-    (4 ∷ 0xa008 ∷ 0 ∷ 0xa000 ∷ 0 ∷ 9 ∷ 0x3803 ∷ [])
+    (4 ∷ 0xa008 ∷ 0 ∷ 0xa000 ∷ 0 ∷ 9 ∷ 0x7803 ∷ [])
     -- 8: word 1043: U is tested before X
     ∷ case (seen 10 (stepOutcome (whole 10 0x1043))) (3 ∷ 0xa000 ∷ 0 ∷ 0xa000 ∷ 0 ∷ 0 ∷ 0x1043 ∷ [])
     -- 9: word 3010 with 65,536 bytes
@@ -134,7 +142,7 @@ unstarred =
     ∷ case (looked 511 0x3003 0x200000) (1 ∷ 0x200000 ∷ [])
     -- 18: LA at 00AFFE, page 11 absent
     ∷ case (seen 10 (stepOutcome (given (laid 65536 16382 (0x41 ∷ 0x10 ∷ [])) (laid 512 10 (0x3003 ∷ [])) (laid 16 1 []) 0xaffe 0 0)))
-    (3 ∷ 0xb000 ∷ 0 ∷ 0xaffe ∷ 0 ∷ 0 ∷ 0x3003 ∷ [])
+    (3 ∷ 0xb000 ∷ 0 ∷ 0xaffe ∷ 0 ∷ 0 ∷ 0x7003 ∷ [])
     -- 19: LCR 1,2 of 80000000
     ∷ case (seen 10 (doing 0x3003 (0x13 ∷ 0x12 ∷ []) (0 ∷ 0x80000000 ∷ []))) (0 ∷ 0 ∷ 1 ∷ 0xa002 ∷ 3 ∷ 0x80000000 ∷ 0x7003 ∷ [])
     -- 20: MVC 9(4,2),8(2): one byte right of its source
@@ -174,24 +182,24 @@ ofPairs =
     (0 ∷ 0 ∷ 1 ∷ 0xa002 ∷ 0 ∷ 0 ∷ 0x7003 ∷ 0 ∷ 0x80000000 ∷ [])
     -- 30: DR 2,4: 2^31 by 1 does not fit
     ∷ case (seenPair (doing 0x3003 (0x1d ∷ 0x24 ∷ []) (0 ∷ 0 ∷ 0x80000000 ∷ 1 ∷ [])))
-    (8 ∷ 0xa000 ∷ 0 ∷ 0xa000 ∷ 0 ∷ 0 ∷ 0x3003 ∷ 0 ∷ 0x80000000 ∷ [])
-    -- 31: D 2,8(4) by a word of zeros: 8, and no mark
+    (8 ∷ 0xa000 ∷ 0 ∷ 0xa000 ∷ 0 ∷ 0 ∷ 0x7003 ∷ 0 ∷ 0x80000000 ∷ [])
+    -- 31: D 2,8(4) by a word of zeros in its own page: 8, and the mark of the fetch
     ∷ case (seenPair (doing 0x3003 (0x5d ∷ 0x20 ∷ 0x40 ∷ 0x08 ∷ []) (0 ∷ 0 ∷ 9 ∷ 0xa000 ∷ [])))
-    (8 ∷ 0xa000 ∷ 0 ∷ 0xa000 ∷ 0 ∷ 0 ∷ 0x3003 ∷ 0 ∷ 9 ∷ [])
+    (8 ∷ 0xa000 ∷ 0 ∷ 0xa000 ∷ 0 ∷ 0 ∷ 0x7003 ∷ 0 ∷ 9 ∷ [])
     -- 32, 33, 34: D 3,10(4), D 2,10(4) and D 2,8(4): odd before the boundary, the boundary before an absent page, that before 8
     ∷ case (seenPair (doing 0x3003 (0x5d ∷ 0x30 ∷ 0x40 ∷ 0x0a ∷ []) (0 ∷ 0 ∷ 9 ∷ 0xb000 ∷ [])))
-    (2 ∷ 0xa000 ∷ 0 ∷ 0xa000 ∷ 0 ∷ 0 ∷ 0x3003 ∷ 0 ∷ 9 ∷ [])
+    (2 ∷ 0xa000 ∷ 0 ∷ 0xa000 ∷ 0 ∷ 0 ∷ 0x7003 ∷ 0 ∷ 9 ∷ [])
     ∷ case (seenPair (doing 0x3003 (0x5d ∷ 0x20 ∷ 0x40 ∷ 0x0a ∷ []) (0 ∷ 0 ∷ 9 ∷ 0xb000 ∷ [])))
-    (2 ∷ 0xb00a ∷ 0 ∷ 0xa000 ∷ 0 ∷ 0 ∷ 0x3003 ∷ 0 ∷ 9 ∷ [])
+    (2 ∷ 0xb00a ∷ 0 ∷ 0xa000 ∷ 0 ∷ 0 ∷ 0x7003 ∷ 0 ∷ 9 ∷ [])
     ∷ case (seenPair (doing 0x3003 (0x5d ∷ 0x20 ∷ 0x40 ∷ 0x08 ∷ []) (0 ∷ 0 ∷ 9 ∷ 0xb000 ∷ [])))
-    (3 ∷ 0xb008 ∷ 0 ∷ 0xa000 ∷ 0 ∷ 0 ∷ 0x3003 ∷ 0 ∷ 9 ∷ [])
+    (3 ∷ 0xb008 ∷ 0 ∷ 0xa000 ∷ 0 ∷ 0 ∷ 0x7003 ∷ 0 ∷ 9 ∷ [])
     -- 35, 36, 37: SLDA 2,1, over the middle and past the end; SRDA 2,32 of a negative number; SRDA 3,0
     ∷ case (seenPair (doing 0x3003 (0x8f ∷ 0x20 ∷ 0x00 ∷ 0x01 ∷ []) (0 ∷ 0x40000000 ∷ 0x80000000 ∷ [])))
     (0 ∷ 0 ∷ 1 ∷ 0xa004 ∷ 3 ∷ 0 ∷ 0x7003 ∷ 1 ∷ 0 ∷ [])
     ∷ case (seenPair (doing 0x3003 (0x8e ∷ 0x20 ∷ 0x00 ∷ 0x20 ∷ []) (0 ∷ 0xfffffffe ∷ 1 ∷ [])))
     (0 ∷ 0 ∷ 1 ∷ 0xa004 ∷ 1 ∷ 0 ∷ 0x7003 ∷ 0xffffffff ∷ 0xfffffffe ∷ [])
     ∷ case (seenPair (doing 0x3003 (0x8e ∷ 0x30 ∷ 0x00 ∷ 0x00 ∷ []) (0 ∷ 5 ∷ 6 ∷ [])))
-    (2 ∷ 0xa000 ∷ 0 ∷ 0xa000 ∷ 0 ∷ 0 ∷ 0x3003 ∷ 5 ∷ 6 ∷ [])
+    (2 ∷ 0xa000 ∷ 0 ∷ 0xa000 ∷ 0 ∷ 0 ∷ 0x7003 ∷ 5 ∷ 6 ∷ [])
     ∷ []
 
 -- E2: single registers and halfwords
@@ -211,8 +219,43 @@ ofSingles =
     (0 ∷ 0 ∷ 1 ∷ 0xa004 ∷ 0 ∷ 0xffff8000 ∷ 0x7003 ∷ [])
     ∷ []
 
+-- E4: the marks of what a refused instruction fetched
+abbrev ofMarks : List Case
+ofMarks =
+    -- 44, 45: an operation that is not in the set: G on its page; one that was there already, with W
+    case (marks (stepOutcome (overPages 0 [] (0x3003 ∷ []) [] 0xa000))) (5 ∷ 0xa000 ∷ 0 ∷ 0xa000 ∷ 0x7003 ∷ 0 ∷ 0 ∷ 0 ∷ [])
+    ∷ case (marks (stepOutcome (overPages 0 [] (0xf003 ∷ []) [] 0xa000))) (5 ∷ 0xa000 ∷ 0 ∷ 0xa000 ∷ 0xf003 ∷ 0 ∷ 0 ∷ 0 ∷ [])
+    -- 46: an odd counter in an open page: nothing was fetched
+    ∷ case (marks (stepOutcome (overPages 0 [] (0x3003 ∷ []) [] 0xa001))) (2 ∷ 0xa001 ∷ 0 ∷ 0xa001 ∷ 0x3003 ∷ 0 ∷ 0 ∷ 0 ∷ [])
+    -- 47: LA at displacement 2,046 of a 2,048-byte page: its second halfword is refused, its first was fetched from that page
+    ∷ case (marks (stepOutcome (overPages 2046 (0x41 ∷ 0x10 ∷ []) (0x3403 ∷ []) [] 0xa7fe))) (4 ∷ 0xa800 ∷ 0 ∷ 0xa7fe ∷ 0x7403 ∷ 0 ∷ 0 ∷ 0 ∷ [])
+    -- 48, 49: MVC 0(1,1),0(2) at 00AFFE and at 00AFFC, from page 13, which is absent, to page 12: both pages that it was fetched from, not page 12
+    ∷ case (marks (stepOutcome (overPages 4094 mvc (0x3003 ∷ 0x3004 ∷ 0x3005 ∷ []) (0xc000 ∷ 0xd000 ∷ []) 0xaffe)))
+    (3 ∷ 0xd000 ∷ 0 ∷ 0xaffe ∷ 0x7003 ∷ 0x7004 ∷ 0x3005 ∷ 0 ∷ [])
+    ∷ case (marks (stepOutcome (overPages 4092 mvc (0x3003 ∷ 0x3004 ∷ 0x3005 ∷ []) (0xc000 ∷ 0xd000 ∷ []) 0xaffc)))
+    (3 ∷ 0xd000 ∷ 0 ∷ 0xaffc ∷ 0x7003 ∷ 0x7004 ∷ 0x3005 ∷ 0 ∷ [])
+    -- 50: the same at 00AFFC with page 11 absent: its third halfword is refused
+    ∷ case (marks (stepOutcome (overPages 4092 mvc (0x3003 ∷ 0 ∷ 0x3005 ∷ []) (0xc000 ∷ 0xd000 ∷ []) 0xaffc)))
+    (3 ∷ 0xb000 ∷ 0 ∷ 0xaffc ∷ 0x7003 ∷ 0 ∷ 0x3005 ∷ 0 ∷ [])
+    -- 51: the same at 00AFFE to its own second page: G by the fetch, and no W
+    ∷ case (marks (stepOutcome (overPages 4094 mvc (0x3003 ∷ 0x3004 ∷ []) (0xb000 ∷ 0xd000 ∷ []) 0xaffe)))
+    (3 ∷ 0xd000 ∷ 0 ∷ 0xaffe ∷ 0x7003 ∷ 0x7004 ∷ 0 ∷ 0 ∷ [])
+    -- 52: D 2,0(1) by a word of zeros in page 11
+    ∷ case (marks (stepOutcome (overPages 0 (0x5d ∷ 0x20 ∷ 0x10 ∷ 0x00 ∷ []) (0x3003 ∷ 0x3004 ∷ []) (0xb000 ∷ 0 ∷ 9 ∷ []) 0xa000)))
+    (8 ∷ 0xa000 ∷ 0 ∷ 0xa000 ∷ 0x7003 ∷ 0x3004 ∷ 0 ∷ 0 ∷ [])
+    -- 53, 54: LA at 00AFFC, and behind it in page 11 no operation of the set: the run's own marks, and those of what was refused; with a
+    -- budget of 1 it is not tried
+    ∷ case (marks (runOutcome 9 (overPages 4092 (0x41 ∷ 0x10 ∷ 0x00 ∷ 0x05 ∷ []) (0x3003 ∷ 0x3004 ∷ []) [] 0xaffc)))
+    (5 ∷ 0xb000 ∷ 1 ∷ 0xb000 ∷ 0x7003 ∷ 0x7004 ∷ 0 ∷ 0 ∷ [])
+    ∷ case (marks (runOutcome 1 (overPages 4092 (0x41 ∷ 0x10 ∷ 0x00 ∷ 0x05 ∷ []) (0x3003 ∷ 0x3004 ∷ []) [] 0xaffc)))
+    (7 ∷ 0 ∷ 1 ∷ 0xb000 ∷ 0x7003 ∷ 0x3004 ∷ 0 ∷ 0 ∷ [])
+    ∷ []
+  where
+    mvc : List ℕ
+    mvc = 0xd2 ∷ 0x00 ∷ 0x10 ∷ 0x00 ∷ 0x20 ∷ 0x00 ∷ []
+
 abbrev cases : List Case
-cases = starred ++ unstarred ++ beside ++ ofPairs ++ ofSingles
+cases = starred ++ unstarred ++ beside ++ ofPairs ++ ofSingles ++ ofMarks
 
 -- the places, from n on, of the cases whose answer is not the expected one
 abbrev failing : ℕ → List Case → List ℕ

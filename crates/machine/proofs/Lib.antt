@@ -1,2 +1,4 @@
 pub mod MarksLast
+pub mod Operands
+pub mod Fetches
 mod Cases

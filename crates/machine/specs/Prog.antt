@@ -2,6 +2,7 @@
 -- and puts bytes, refuses with a number and a place, or is done. One interpreter runs it over any store.
 use Prim.Native.Nat.{ℕ}
 use Rattle.pages.specs.declared.Access.{Access}
+use Rattle.pages.specs.declared.Access.the-variants.{Fetch, Load, Store}
 use Rattle.pages.specs.Tests.{Verdict, fine, bad, numberOf}
 
 pub data Prog (R : Type 0) : Type 0 where
@@ -24,9 +25,12 @@ pub data Answer (R S : Type 0) : Type 0 where
   finished : R → S → Answer R S
   refused : ℕ → ℕ → S → Answer R S
 
--- what a later refusal keeps of a look that succeeded: nothing (document 01: a refused instruction sets no mark)
+-- what a later refusal keeps of a look that succeeded. A fetch that succeeded is an access, and its mark stays (001, L456; document 02,
+-- E4); a byte that was only looked up for an operand has not been accessed
 abbrev pub keeps : {S : Type 0} → Ops S → Access → ℕ → S → S
-keeps o acc a kept = kept
+keeps o Fetch a kept = o .noted kept Fetch a
+keeps o Load a kept = kept
+keeps o Store a kept = kept
 
 abbrev pub after : {R S : Type 0} → Verdict → (S → Answer R S) → S → ℕ → S → Answer R S
 after fine go s a kept = go s

@@ -16,9 +16,9 @@ use Rattle.lines.specs.Listing.{Answer, listed}
 use Rattle.reading.specs.Setting.{Setting}
 use Rattle.sheet.specs.Sheet.{machineOf, printed, answerOf}
 
--- the version of these functions, 0.5.0, as one number: major × 65,536 + minor × 256 + patch
+-- the version of these functions, 0.6.0, as one number: major × 65,536 + minor × 256 + patch
 abbrev pub version : ℕ
-version = 1280
+version = 1536
 
 pub record Crossed : Type 0 where
   pub number : ℕ

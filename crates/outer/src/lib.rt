@@ -14,7 +14,7 @@ ghost use Rattle.reading.specs.Sheet.{good, readingOf};
 pub extern "C" fn spectra46_version() -> u32
     ensures { λ r. ⌜ r ≡ version ⌝ }
 {
-    1280
+    1536
 }
 
 // The six numbers of a reply, into six places.

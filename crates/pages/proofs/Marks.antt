@@ -1,4 +1,5 @@
--- Marks change nothing but marks: no bit that a look-up tests, no real address; and two marks may be set in either order.
+-- Marks change nothing but marks: no bit that a look-up tests, no real address; two marks may be set in either order, and a mark twice is
+-- the mark once.
 use Prim.Native.Nat.{ℕ, _<_, _≤_, _/_, _%_, _*_, _+_}
 use native.Mathlib.Omega.{arith}
 use native.Mathlib.Nat.{div-add-mod'}
@@ -125,6 +126,34 @@ changed-comm f g k p r map = same (ℕ-discrete p r)
 pub accessed-written : (w : ℕ) → accessed (written w) ≡ written (accessed w)
 unfolding accessed written
 accessed-written w = omega arith
+
+-- a mark on a page, twice, is the mark once
+again : (f : ℕ → ℕ) → ((x : ℕ) → f (f x) ≡ f x) → (map : List ℕ) (p : ℕ) → changed f p (changed f p map) ≡ changed f p map
+unfolding wordOf
+again f k map p = go (decLt p (length map))
+  where
+    go : Dec (p < length map) → set (set map p (f (getD map p 0))) p (f (getD (set map p (f (getD map p 0))) p 0)) ≡ set map p (f (getD map p 0))
+    go (yes h) =
+        ap (λ (v : ℕ). set (set map p (f (getD map p 0))) p (f v)) (getD-set-same map p (f (getD map p 0)) 0 h)
+        ∙ set-set map p (f (getD map p 0)) (f (f (getD map p 0)))
+        ∙ ap (λ (v : ℕ). set map p v) (k (getD map p 0))
+    go (no h) =
+        let o : length map ≤ p = omega arith in
+        ap (λ (m : List ℕ). set m p (f (getD m p 0))) (set-out map p (f (getD map p 0)) o)
+
+pub accessed-again : (map : List ℕ) (a b : ℕ) → pageOf b ≡ pageOf a → accessedAt (accessedAt map a) b ≡ accessedAt map a
+unfolding accessedAt
+accessed-again map a b h = rw h (again accessed twice map (pageOf a))
+  where
+    twice : (x : ℕ) → accessed (accessed x) ≡ accessed x
+    twice x = unfold accessed in omega arith
+
+pub written-again : (map : List ℕ) (a b : ℕ) → pageOf b ≡ pageOf a → writtenAt (writtenAt map a) b ≡ writtenAt map a
+unfolding writtenAt
+written-again map a b h = rw h (again written twice map (pageOf a))
+  where
+    twice : (x : ℕ) → written (written x) ≡ written x
+    twice x = unfold written in omega arith
 
 -- a mark that is there already need not be set
 pub accessed-new : (w : ℕ) → w / 16384 % 2 ≡ 0 → w + 16384 ≡ accessed w

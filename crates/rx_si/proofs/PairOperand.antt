@@ -68,7 +68,7 @@ module _ (regs : List ℕ) (c : Now) (mem map : List ℕ) (op : PairOp) (f : RxF
       pub pair-unfound : (out : Out) (d : Cause) (b : ℕ) → out ≡ refusalOf found → found ≡ Refused d b
           → told out regs c (framedOf mem map) ≡ wanted
       unfolding loading
-      pair-unfound out d b eo ef = comes _ (operand-stop regs c mem map 4 a Load 4 _ on found e out d b (omega arith) eo ef)
+      pair-unfound out d b eo ef = comes _ (operand-stop regs c mem map 4 a Load 4 _ tt on found e out d b (omega arith) eo ef)
 
       -- b is the operand, found at i, and o the answer for it
       module _ (i : ℕ) (ef : found ≡ At i) (b : ℕ) (eb : b ≡ flat mem i 4 0) (o : Out) (regs′ : List ℕ) (h : answersTo o regs regs′ (made b)) where
@@ -83,7 +83,7 @@ module _ (regs : List ℕ) (c : Now) (mem map : List ℕ) (op : PairOp) (f : RxF
             let k = rw eo at h in
             rw eo
             (comes _
-            (operand-go regs c mem map 4 a Load 4 _ on found e i map′ regs′ _ n ef em
+            (operand-go regs c mem map 4 a Load 4 _ tt on found e i map′ regs′ _ n ef em
             (loaded regs′ n _ _ a 4 made (k ∙ ap made (the-word map′ em)))))
 
         pub pair-refused : (p q : ℕ) → o ≡ Stop p q → told o regs′ c (framedOf mem map) ≡ wanted
@@ -92,5 +92,5 @@ module _ (regs : List ℕ) (c : Now) (mem map : List ℕ) (op : PairOp) (f : RxF
             let k = rw eo at h in
             rw (eo, k .1)
             (comes _
-            (operand-refused regs c mem map 4 a Load 4 _ on found e i (noteField map a 4) p q ef refl
+            (operand-refused regs c mem map 4 a Load 4 _ tt on found e i (noteField map a 4) p q ef refl
             (loaded-in-vain _ _ a 4 p q made (k .0 ∙ ap made (the-word (noteField map a 4) refl)))))

@@ -8,6 +8,7 @@ use Rattle.slips.specs.Wide as wide
 use Rattle.slips.specs.Pages as pages
 use Rattle.slips.specs.Moves as moves
 use Rattle.slips.specs.Refusals as refusals
+use Rattle.slips.specs.Marks as marks
 use Rattle.slips.specs.Operations as operations
 use Rattle.slips.specs.Pairs as pairs
 use Rattle.slips.specs.SignedShifts as shifts
@@ -38,6 +39,10 @@ moves-shown = refl
 pub refusals-shown : unshown refusals.slips ≡ []
 unfolding computes
 refusals-shown = refl
+
+pub marks-shown : unshown marks.slips ≡ []
+unfolding computes
+marks-shown = refl
 
 pub operations-shown : unshown operations.slips ≡ []
 unfolding computes

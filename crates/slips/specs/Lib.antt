@@ -6,6 +6,7 @@ pub mod Wide
 pub mod Pages
 pub mod Moves
 pub mod Refusals
+pub mod Marks
 pub mod Operations
 pub mod Pairs
 pub mod SignedShifts

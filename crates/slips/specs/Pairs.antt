@@ -20,11 +20,10 @@ use Rattle.machine.specs.Cpu.{Cpu, reg, withReg, withCode, onward}
 use Rattle.machine.specs.Pairs.{pair, withPair, evenOnly, intoPair}
 use Rattle.machine.specs.Rr.{rr}
 use Rattle.machine.specs.Rx.{rxAddress}
-use Rattle.machine.specs.Step.{step}
 use Rattle.machine.specs.Machine.{Given, cpuIn}
 use Rattle.slips.specs.Row.{Row}
-use Rattle.slips.specs.Seen.{lone, stepLeaving, steps, operation, asRr, asRx}
-use Rattle.slips.specs.Refusals.{accessedAnyway, stepSpoiling}
+use Rattle.slips.specs.Seen.{lone, steps, operation, asRr, asRx}
+use Rattle.slips.specs.Refusals.{stepSpoiling}
 
 -- the work of M or D on its operand v
 abbrev work : PairOp → RxFields → Cpu → ℕ → Prog Cpu
@@ -102,7 +101,6 @@ slips =
     -- D 2,16(5) in page 11
     ∷ operation "a divide error told before the look-up" 0x5d (asRx eightFirst) (seven (0x5d ∷ 0x20 ∷ 0x50 ∷ 16 ∷ []) 0 0xb000) 3 8
     -- D 2,8(5)
-    ∷ steps "G set by a divide error" (stepLeaving accessedAnyway step) (seven (0x5d ∷ 0x20 ∷ 0x50 ∷ 8 ∷ []) 0 0xa000) 0x3000 0x7000
     ∷ operation "a divide error at the operand" 0x5d (asRx atOperand) (seven (0x5d ∷ 0x20 ∷ 0x50 ∷ 8 ∷ []) 0 0xa000) 0xa000 0xa008
     -- M 3,1(5) and M 3,0(5) in page 11
     ∷ operation "an odd R1 tested after the operand boundary" 0x5c (asRx afterBoundary)

@@ -1,5 +1,5 @@
--- Slips in demand 3: a plain machine that finds pages by part of their number, or leaves marks out, does not agree with the machine, though
--- the premise holds.
+-- Slips in demand 3: a plain machine that finds pages by part of their number, or leaves marks out, also after a refusal, does not agree with
+-- the machine, though the premise holds.
 use Prim.Native.Nat.{ℕ, _+_, _*_, _%_}
 use Prim.Native.String.{String}
 use mathlib.Core.List.{List, [], _∷_}
@@ -9,10 +9,10 @@ use lib.Seq.{sets}
 use Rattle.words.specs.Pick.{pick}
 use Rattle.pages.specs.Word.{pageOf, dispOf, wordOf}
 use Rattle.machine.specs.Prog.{Ops}
-use Rattle.machine.specs.Run.{Result, run}
+use Rattle.machine.specs.Run.{Result, one, run}
 use Rattle.machine.specs.Cpu.{Cpu}
 use Rattle.machine.specs.Step.{step}
-use Rattle.machine.specs.Machine.{Given, Outcome, given, cpuIn, storeIn, runOutcome}
+use Rattle.machine.specs.Machine.{Given, Outcome, given, cpuIn, storeIn, stepOutcome, runOutcome}
 use Rattle.demand.specs.Plain.{Plain, plainOf, bare, lookPlain, notePlain, stored, readPlain, writePlain, plain, plainRun, shown}
 use Rattle.slips.specs.Row.{Row, row}
 use Rattle.slips.specs.Seen as machines
@@ -57,6 +57,10 @@ withoutW =
       wrote = λ q a v. plainOf (q .bits) (writePlain q a v .pages);
     }
 
+-- a plain step whose refusals keep no mark
+abbrev keepingNone : Cpu → Plain → Result Cpu Plain
+keepingNone c q = one c (machines.interpBy plain (λ acc a kept. kept) machines.asKept (step c) q q)
+
 -- number, place, count, counter, code; register 1; the bits of pages 10 and 11
 abbrev seen : Outcome → List ℕ
 seen o =
@@ -87,6 +91,10 @@ abbrev plains : String → Ops Plain → ℕ → Given → ℕ → ℕ → Row
 plains slip slipped budget g one other =
     row slip (seen (runOutcome budget g)) (seenPlain (run (λ c. slipped) step budget (cpuIn g) (shown (storeIn g)))) one other
 
+-- the same of a single step
+abbrev refuses : String → (Cpu → Plain → Result Cpu Plain) → Given → ℕ → ℕ → Row
+refuses slip slipped g one other = row slip (seen (stepOutcome g)) (seenPlain (slipped (cpuIn g) (shown (storeIn g)))) one other
+
 -- this program in the one frame of memory, this map, this counter; registers 2 and 3 with the addresses of pages 11 and 12
 abbrev pub loaded : List ℕ → List ℕ → ℕ → Given
 loaded program map pc = given (sets (replicate 4096 0) 0 program) map (sets (replicate 16 0) 2 (0xb000 ∷ 0xc000 ∷ [])) pc 0 0
@@ -109,4 +117,6 @@ slips =
     ∷ plains "plain machine without G" withoutG 1 (loaded loadFive (lone 10) 0xa000) 0x7000 0x3000
     -- MVI 8(2),7
     ∷ plains "plain machine without W" withoutW 1 (loaded (0x92 ∷ 7 ∷ 0x20 ∷ 8 ∷ []) (lone 11) 0xb000) 0xf000 0x7000
+    -- no operation of the set
+    ∷ refuses "plain machine that keeps no G after a refusal" keepingNone (loaded [] (lone 10) 0xa000) 0x7000 0x3000
     ∷ []

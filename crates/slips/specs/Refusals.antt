@@ -1,4 +1,5 @@
--- Slips of a machine that refuses and leaves a trace, or completes and leaves the wrong marks. All but the last are of `engine::step`.
+-- Slips of a machine that refuses and leaves a trace, or completes and leaves the wrong marks (those of a refusal are in Marks). All but the
+-- last are of `engine::step`.
 use Prim.Native.Nat.{ℕ}
 use mathlib.Core.List.{List, [], _∷_, _++_}
 use lib.ListN.{take, drop, replicate}
@@ -20,10 +21,6 @@ use Rattle.slips.specs.Seen.{lent, behindDoor, stepLeaving, steps}
 -- W set by a store that is refused
 abbrev pub writtenAnyway : Framed → Framed → Access → ℕ → Framed
 writtenAnyway kept s acc a = framedOf (kept .mem) (pick (isStore acc) (writtenAt (kept .map) a) (kept .map))
-
--- G set by what a refused instruction had looked up so far
-abbrev pub accessedAnyway : Framed → Framed → Access → ℕ → Framed
-accessedAnyway kept s acc a = framedOf (kept .mem) (s .map)
 
 -- a program that looks nothing up
 abbrev blind : Prog Cpu → Prog Cpu
@@ -94,14 +91,12 @@ abbrev pub storing : Given
 storing = onPage11 (0x50 ∷ 0x10 ∷ 0x20 ∷ 4 ∷ []) 0x3800
 
 -- LA 1,5 at 00AFFE, its second halfword in page 11
-abbrev atTheEnd : ℕ → Given
+abbrev pub atTheEnd : ℕ → Given
 atTheEnd word = lent (0 ∷ 5 ∷ []) (replicate 14 0 ++ 0x41 ∷ 0x10 ∷ []) word [] 0xaffe
 
 abbrev pub slips : List Row
 slips =
     steps "W set by a store that was refused" (stepLeaving writtenAnyway step) storing 0x3800 0xb800
-    -- the same to a page that is absent
-    ∷ steps "G set by a refused instruction" (stepLeaving accessedAnyway step) (onPage11 (0x50 ∷ 0x10 ∷ 0x20 ∷ 4 ∷ []) 0) 0x3000 0x7000
     -- IC 1,4(2) from a page that is absent; NI, OI and XI to one with E set
     ∷ steps "IC not undone on a page fault" (stepSpoiling notUndone) (onPage11 (0x43 ∷ 0x10 ∷ 0x20 ∷ 4 ∷ []) 0) 0x12345678 0x12345600
     ∷ steps "NI not undone on a page fault" (stepSpoiling notUndone) (onPage11 (0x94 ∷ 0x10 ∷ 0x20 ∷ 4 ∷ []) 0x3800) 0 1

@@ -12,7 +12,7 @@ use Rattle.words.specs.Combine.{signedResult, carried, logicOf, combineOf, shif
 use Rattle.words.specs.Wide.{productOf, quotientOf, remainderOf, pairOf}
 use Rattle.words.specs.SignedShifts.{signBit, leftward, rightward, shiftedOf}
 use Rattle.pages.specs.declared.Access.{Access}
-use Rattle.pages.specs.declared.Access.the-variants.{Fetch}
+use Rattle.pages.specs.declared.Access.the-variants.{Load}
 use Rattle.pages.specs.Word.{bitG, bitU, bitS, bitE, bitM, bitH, bitsX, frame, pageOf, dispOf, next, base, size, real, wordOf, accessed, written}
 use Rattle.pages.specs.Tests as tests
 use Rattle.pages.specs.Look.{lookOf}
@@ -24,7 +24,7 @@ use Rattle.code.specs.declared.RsFields.{RsFields}
 use Rattle.code.specs.declared.SsFields.{SsFields}
 use Rattle.code.specs.Table as code
 use Rattle.code.specs.Formats.{opOf, rrOf, rxOf, rsOf, ssOf}
-use Rattle.machine.specs.Prog.{Prog, Answer, finished, refused, done, fail, look, get, put, after, interp}
+use Rattle.machine.specs.Prog.{Prog, Ops, Answer, finished, refused, done, fail, look, get, put, keeps, after, interp}
 use Rattle.machine.specs.Run.{Result, one, run}
 use Rattle.machine.specs.Store.{framed}
 use Rattle.machine.specs.Fields.{looks, gets, puts, moves, compares, loading, storing, halfword}
@@ -85,19 +85,24 @@ abbrev pub stepBy : (Cpu → Prog Cpu) → Given → Outcome
 stepBy program =
     behindDoor (λ g. one (cpuIn g) (interp framed (program (cpuIn g)) (storeIn g) (storeIn g)))
 
--- the interpreter, but a refusal hands back what `left` makes of the store before the instruction and of the store as it is now
-abbrev pub interpBy : {R : Type 0} → (Framed → Framed → Access → ℕ → Framed) → Prog R → Framed → Framed → Answer R Framed
-interpBy left (done r) kept s = finished r s
-interpBy left (fail n a) kept s = refused n a (left kept s Fetch a)
-interpBy left (look acc a k) kept s =
-    after (framed .looked s acc a) (λ t. interpBy left k kept t) (framed .noted s acc a) a (left kept s acc a)
-interpBy left (get a k) kept s = interpBy left (k (framed .read s a)) kept s
-interpBy left (put a v k) kept s = interpBy left k kept (framed .wrote s a v)
+-- the interpreter, but of a look that succeeded a later refusal keeps what `keep` says, and it hands back what `left` makes of that and of
+-- the store as it is now
+abbrev pub interpBy : {R S : Type 0} → Ops S → (Access → ℕ → S → S) → (S → S → Access → ℕ → S) → Prog R → S → S → Answer R S
+interpBy o keep left (done r) kept s = finished r s
+interpBy o keep left (fail n a) kept s = refused n a (left kept s Load a)
+interpBy o keep left (look acc a k) kept s =
+    after (o .looked s acc a) (λ t. interpBy o keep left k (keep acc a kept) t) (o .noted s acc a) a (left kept s acc a)
+interpBy o keep left (get a k) kept s = interpBy o keep left (k (o .read s a)) kept s
+interpBy o keep left (put a v k) kept s = interpBy o keep left k kept (o .wrote s a v)
+
+-- what is kept is handed back
+abbrev pub asKept : {S : Type 0} → S → S → Access → ℕ → S
+asKept kept s acc a = kept
 
 -- one step by this program, which may leave a trace
 abbrev pub stepLeaving : (Framed → Framed → Access → ℕ → Framed) → (Cpu → Prog Cpu) → Given → Outcome
 stepLeaving left program =
-    behindDoor (λ g. one (cpuIn g) (interpBy left (program (cpuIn g)) (storeIn g) (storeIn g)))
+    behindDoor (λ g. one (cpuIn g) (interpBy framed (λ acc a kept. keeps framed acc a kept) left (program (cpuIn g)) (storeIn g) (storeIn g)))
 
 -- the machine's step, but operation `op` is this
 abbrev pub stepBut : ℕ → (ℕ → Cpu → Prog Cpu) → Cpu → Prog Cpu

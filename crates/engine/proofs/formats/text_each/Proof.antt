@@ -1,55 +1,35 @@
-use Rattle.engine.proofs.Texts.{text-each}
+use Rattle.engine.proofs.Texts.{stop-first, stop-second, stop-third, whole-text}
 use borrow.Author.Needs.{needs}
 use Rattle.engine.proofs.formats.text_each.Statement.{statement}
 use Rattle.engine.proofs.formats.text_each.Tie as tie
-use Rattle.engine.proofs.formats.text_each.Reads as reads
-use Rattle.engine.proofs.formats.text_each.Lts as lts
-use Rattle.engine.proofs.formats.checked.Reads as checked-reads
-use Rattle.engine.proofs.formats.halves_of.Reads as halves-of-reads
-use Rattle.engine.proofs.formats.past_of.Reads as past-of-reads
-use Rattle.fields.proofs.read_half.Reads as read-half-reads
-
-past-of-requires : tie.Need-past-of-requires
-past-of-requires c κs = search needs
-
-past-of-requires-2 : tie.Need-past-of-requires-2
-past-of-requires-2 c κs = search needs
-
-read-half-requires : tie.Need-read-half-requires
-read-half-requires c κs = search needs
-
-read-half-requires-2 : tie.Need-read-half-requires-2
-read-half-requires-2 c κs = search needs
-
-read-half-requires-3 : tie.Need-read-half-requires-3
-read-half-requires-3 c κs = search needs
-
-halves-of-requires : tie.Need-halves-of-requires
-halves-of-requires c κs = search needs
-
-checked-requires : tie.Need-checked-requires
-checked-requires c κs = search needs
-
-checked-requires-2 : tie.Need-checked-requires-2
-checked-requires-2 c κs = search needs
-
-checked-requires-3 : tie.Need-checked-requires-3
-checked-requires-3 c κs = search needs
-
-returns : tie.Need-returns
-returns c = text-each _ _ _ _ _ _ _ _ _ _ _ (c .before .before .before .before .before .before .before .before .past-of .ensures) (c .before .before .before .before .before .before .before .past-of2 .ensures) (c .before .before .before .before .before .before .read-half .ensures) (c .before .before .before .before .before .read-half2 .ensures) (c .before .before .before .before .read-half3 .ensures) (c .before .before .before .halves-of .ensures) (c .before .before .checked .ensures) (c .before .checked2 .ensures) (c .checked3 .ensures)
 
 pub text-each-spec : {M : Type 1} → statement M
 text-each-spec =
     tie.close
     (tie.spec
-    past-of-requires
-    past-of-requires-2
-    read-half-requires
-    read-half-requires-2
-    read-half-requires-3
-    halves-of-requires
-    checked-requires
-    checked-requires-2
-    checked-requires-3
-    returns)
+    (λ c κs. search needs)
+    (λ c. search needs)
+    (λ c. search needs)
+    (λ c κs. search needs)
+    (λ c. search needs)
+    (λ c. stop-first (c .before .before .before .before .before .before .before .before .before .args .mem .now) _ _ _ _ ((c .before .before .before .before .before .look-half .ensures) .0) ((c .before .before .before .before .before .look-half .ensures) .1) _ _ _ ((c .before .enum-told2 .given) .1) (c .stop-of .ensures))
+    (λ c κs. search needs)
+    (λ c κs. search needs)
+    (λ c κs. search needs)
+    (λ c κs. search needs)
+    (λ c. search needs)
+    (λ c. search needs)
+    (λ c κs. search needs)
+    (λ c. search needs)
+    (λ c. stop-second (c .before .before .before .before .before .before .before .before .before .before .before .before .before .before .before .before .before .before .before .args .mem .now) _ _ _ _ ((c .before .before .before .before .before .before .before .before .before .before .before .before .before .before .before .look-half .ensures) .0) ((c .before .before .before .before .before .before .before .before .before .before .before .before .before .before .before .look-half .ensures) .1) _ ((c .before .before .before .before .before .before .before .before .before .before .before .enum-told .given) .1) _ _ (c .before .before .before .before .before .before .before .before .before .read-half .ensures) (c .before .before .before .before .before .before .before .before .halves-of .ensures) _ (c .before .before .before .before .before .before .before .past-of .ensures) _ _ ((c .before .before .before .before .before .look-wanted .ensures) .0) ((c .before .before .before .before .before .look-wanted .ensures) .1) _ _ _ ((c .before .enum-told4 .given) .1) (c .stop-of2 .ensures))
+    (λ c κs. search needs)
+    (λ c κs. search needs)
+    (λ c κs. search needs)
+    (λ c. search needs)
+    (λ c. search needs)
+    (λ c κs. search needs)
+    (λ c. search needs)
+    (λ c. stop-third (c .before .before .before .before .before .before .before .before .before .before .before .before .before .before .before .before .before .before .before .before .before .before .before .before .before .before .before .before .args .mem .now) _ _ _ _ ((c .before .before .before .before .before .before .before .before .before .before .before .before .before .before .before .before .before .before .before .before .before .before .before .before .look-half .ensures) .0) ((c .before .before .before .before .before .before .before .before .before .before .before .before .before .before .before .before .before .before .before .before .before .before .before .before .look-half .ensures) .1) _ ((c .before .before .before .before .before .before .before .before .before .before .before .before .before .before .before .before .before .before .before .before .enum-told .given) .1) _ _ (c .before .before .before .before .before .before .before .before .before .before .before .before .before .before .before .before .before .before .read-half .ensures) (c .before .before .before .before .before .before .before .before .before .before .before .before .before .before .before .before .before .halves-of .ensures) _ (c .before .before .before .before .before .before .before .before .before .before .before .before .before .before .before .before .past-of .ensures) _ _ ((c .before .before .before .before .before .before .before .before .before .before .before .before .before .before .look-wanted .ensures) .0) ((c .before .before .before .before .before .before .before .before .before .before .before .before .before .before .look-wanted .ensures) .1) _ ((c .before .before .before .before .before .before .before .before .before .before .enum-told3 .given) .1) _ (c .before .before .before .before .before .before .before .before .read-half2 .ensures) _ (c .before .before .before .before .before .before .before .past-of2 .ensures) _ _ ((c .before .before .before .before .before .look-wanted2 .ensures) .0) ((c .before .before .before .before .before .look-wanted2 .ensures) .1) _ _ _ ((c .before .enum-told6 .given) .1) (c .stop-of3 .ensures))
+    (λ c κs. search needs)
+    (λ c. search needs)
+    (λ c. whole-text (c .before .before .before .before .before .before .before .before .before .before .before .before .before .before .before .before .before .before .before .before .before .before .before .before .before .before .before .before .before .args .mem .now) _ _ _ _ ((c .before .before .before .before .before .before .before .before .before .before .before .before .before .before .before .before .before .before .before .before .before .before .before .before .before .look-half .ensures) .0) ((c .before .before .before .before .before .before .before .before .before .before .before .before .before .before .before .before .before .before .before .before .before .before .before .before .before .look-half .ensures) .1) _ ((c .before .before .before .before .before .before .before .before .before .before .before .before .before .before .before .before .before .before .before .before .before .enum-told .given) .1) _ _ (c .before .before .before .before .before .before .before .before .before .before .before .before .before .before .before .before .before .before .before .read-half .ensures) (c .before .before .before .before .before .before .before .before .before .before .before .before .before .before .before .before .before .before .halves-of .ensures) _ (c .before .before .before .before .before .before .before .before .before .before .before .before .before .before .before .before .before .past-of .ensures) _ _ ((c .before .before .before .before .before .before .before .before .before .before .before .before .before .before .before .look-wanted .ensures) .0) ((c .before .before .before .before .before .before .before .before .before .before .before .before .before .before .before .look-wanted .ensures) .1) _ ((c .before .before .before .before .before .before .before .before .before .before .before .enum-told3 .given) .1) _ (c .before .before .before .before .before .before .before .before .before .read-half2 .ensures) _ (c .before .before .before .before .before .before .before .before .past-of2 .ensures) _ _ ((c .before .before .before .before .before .before .look-wanted2 .ensures) .0) ((c .before .before .before .before .before .before .look-wanted2 .ensures) .1) _ _ ((c .before .before .enum-told5 .given) .1) (c .read-half3 .ensures)))

@@ -52,7 +52,7 @@ same-length-3 c = search needs
 
 returns-2 : tie.Need-returns-2
 unfolding rs
-returns-2 c = rw (← (c .before .before .before .before .before .before .before .operand-address .ensures), ← (c .before .before .before .before .before .how-many .ensures .0)) (operand-stop _ _ _ _ _ _ _ _ _ (c .before .before .before .before .before .before .if1 .left) _ (c .before .before .before .look-one .ensures) _ _ _ (omega (arith, (c .before .before .before .before .before .how-many .ensures .0))) (c .refusal .ensures) ((c .before .enum-told2 .given) .1))
+returns-2 c = rw (← (c .before .before .before .before .before .before .before .operand-address .ensures), ← (c .before .before .before .before .before .how-many .ensures .0)) (operand-stop _ _ _ _ _ _ _ _ _ tt (c .before .before .before .before .before .before .if1 .left) _ (c .before .before .before .look-one .ensures) _ _ _ (omega (arith, (c .before .before .before .before .before .how-many .ensures .0))) (c .refusal .ensures) ((c .before .enum-told2 .given) .1))
 
 mul-note-field : tie.Need-mul-note-field
 mul-note-field c = search needs
@@ -74,7 +74,7 @@ same-length-5 c = search needs
 
 returns-3 : tie.Need-returns-3
 unfolding rs
-returns-3 c = rw (← (c .before .before .before .before .before .before .before .before .before .before .before .before .before .before .before .before .before .operand-address .ensures), ← (c .before .before .before .before .before .before .before .before .before .before .before .before .before .before .before .how-many .ensures .0), ← (c .before .before .before .before .before .ahead-of .ensures)) (operand-go _ _ _ _ _ _ _ _ _ (c .before .before .before .before .before .before .before .before .before .before .before .before .before .before .before .before .if1 .left) _ (c .before .before .before .before .before .before .before .before .before .before .before .before .before .look-one .ensures) _ _ _ _ _ ((c .before .before .before .before .before .before .before .before .before .before .before .enum-told .given) .1) (c .before .before .before .before .before .before .before .before .before .note-field .ensures) (fills-done _ _ _ _ _ _ _ _ _ refl (c .before .before .fill .ensures)))
+returns-3 c = rw (← (c .before .before .before .before .before .before .before .before .before .before .before .before .before .before .before .before .before .operand-address .ensures), ← (c .before .before .before .before .before .before .before .before .before .before .before .before .before .before .before .how-many .ensures .0), ← (c .before .before .before .before .before .ahead-of .ensures)) (operand-go _ _ _ _ _ _ _ _ _ tt (c .before .before .before .before .before .before .before .before .before .before .before .before .before .before .before .before .if1 .left) _ (c .before .before .before .before .before .before .before .before .before .before .before .before .before .look-one .ensures) _ _ _ _ _ ((c .before .before .before .before .before .before .before .before .before .before .before .enum-told .given) .1) (c .before .before .before .before .before .before .before .before .before .note-field .ensures) (fills-done _ _ _ _ _ _ _ _ _ refl (c .before .before .fill .ensures)))
 
 pub load-multiple-spec : {M : Type 1} → statement M
 load-multiple-spec =

@@ -45,7 +45,7 @@ same-length c = search needs
 
 returns : tie.Need-returns
 unfolding ss
-returns c = rw (← (c .before .before .before .before .before .before .first-address .ensures), ← (c .before .before .before .before .before .second-address .ensures), ← add-one) (two-no _ _ _ _ _ _ _ (omega arith) _ (c .before .before .before .look-two .ensures) _ _ _ (c .refusal .ensures) ((c .before .enum-told2 .given) .1))
+returns c = rw (← (c .before .before .before .before .before .before .first-address .ensures), ← (c .before .before .before .before .before .second-address .ensures), ← add-one) (two-no _ _ _ _ _ _ tt tt _ (omega arith) _ (c .before .before .before .look-two .ensures) _ _ _ (c .refusal .ensures) ((c .before .enum-told2 .given) .1))
 
 note-field-requires : tie.Need-note-field-requires
 note-field-requires c κs = search needs
@@ -67,7 +67,7 @@ same-length-3 c = search needs
 
 returns-2 : tie.Need-returns-2
 unfolding ss
-returns-2 c = rw (← (c .before .before .before .before .before .before .before .before .before .before .before .before .before .before .before .before .before .before .before .before .before .first-address .ensures), ← (c .before .before .before .before .before .before .before .before .before .before .before .before .before .before .before .before .before .before .before .before .second-address .ensures), ← (c .ahead-of .ensures), ← add-one) (two-yes _ _ _ _ _ _ _ (omega arith) _ (c .before .before .before .before .before .before .before .before .before .before .before .before .before .before .before .before .before .before .look-two .ensures) _ _ _ _ _ ((c .before .before .before .before .before .before .before .before .before .before .before .before .before .before .before .before .enum-told .given) .1) (c .before .before .before .before .before .before .before .before .before .before .before .before .before .before .note-field .ensures) (c .before .before .before .before .before .before .before .before .before .before .note-field2 .ensures) (moved _ _ _ _ _ _ _ _ _ (c .before .before .before .before .before .move-field .ensures) refl))
+returns-2 c = rw (← (c .before .before .before .before .before .before .before .before .before .before .before .before .before .before .before .before .before .before .before .before .before .first-address .ensures), ← (c .before .before .before .before .before .before .before .before .before .before .before .before .before .before .before .before .before .before .before .before .second-address .ensures), ← (c .ahead-of .ensures), ← add-one) (two-yes _ _ _ _ _ _ tt tt _ (omega arith) _ (c .before .before .before .before .before .before .before .before .before .before .before .before .before .before .before .before .before .before .look-two .ensures) _ _ _ _ _ ((c .before .before .before .before .before .before .before .before .before .before .before .before .before .before .before .before .enum-told .given) .1) (c .before .before .before .before .before .before .before .before .before .before .before .before .before .before .note-field .ensures) (c .before .before .before .before .before .before .before .before .before .before .note-field2 .ensures) (moved _ _ _ _ _ _ _ _ _ (c .before .before .before .before .before .move-field .ensures) refl))
 
 pub move-fields-spec : {M : Type 1} → statement M
 move-fields-spec =

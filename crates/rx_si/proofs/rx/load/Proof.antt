@@ -76,7 +76,7 @@ same-length-3 c = search needs
 -- src/rx.rt:72:9
 returns-2 : tie.Need-returns-2
 unfolding rx loading
-returns-2 c = rw (← (c .before .before .before .before .before .before .before .before .width-of .ensures), ← (c .before .before .before .before .before .before .before .before .before .operand-address .ensures)) (operand-stop _ _ _ _ _ _ _ _ _ (on-is _ _ (c .before .before .before .before .before .before .before .is-off .ensures) (c .before .before .before .before .before .before .if1 .left)) _ (len-is _ _ _ _ _ _ _ (c .before .before .before .look-one .ensures) ((c .before .before .before .before .bytes-of .ensures) .0)) _ _ _ (width-some (c .before .before .before .before .before .before .before .before .width-of .result)) (c .refusal .ensures) ((c .before .enum-told .given) .1))
+returns-2 c = rw (← (c .before .before .before .before .before .before .before .before .width-of .ensures), ← (c .before .before .before .before .before .before .before .before .before .operand-address .ensures)) (operand-stop _ _ _ _ _ _ _ _ _ tt (on-is _ _ (c .before .before .before .before .before .before .before .is-off .ensures) (c .before .before .before .before .before .before .if1 .left)) _ (len-is _ _ _ _ _ _ _ (c .before .before .before .look-one .ensures) ((c .before .before .before .before .bytes-of .ensures) .0)) _ _ _ (width-some (c .before .before .before .before .before .before .before .before .width-of .result)) (c .refusal .ensures) ((c .before .enum-told .given) .1))
 
 -- src/rx.rt:74:35
 reg-requires : tie.Need-reg-requires
@@ -109,7 +109,7 @@ same-length-5 c = search needs
 -- src/rx.rt:62:1
 returns-3 : tie.Need-returns-3
 unfolding rx loading
-returns-3 c = rw (← (c .before .before .before .before .before .before .before .before .before .before .before .before .before .before .before .before .before .before .before .before .before .width-of .ensures), ← (c .before .before .before .before .before .before .before .before .before .before .before .before .before .before .before .before .before .before .before .before .before .before .operand-address .ensures)) (operand-go _ _ _ _ _ _ _ _ _ (on-is _ _ (c .before .before .before .before .before .before .before .before .before .before .before .before .before .before .before .before .before .before .before .before .is-off .ensures) (c .before .before .before .before .before .before .before .before .before .before .before .before .before .before .before .before .before .before .before .if1 .left)) _ (len-is _ _ _ _ _ _ _ (c .before .before .before .before .before .before .before .before .before .before .before .before .before .before .before .before .look-one .ensures) ((c .before .before .before .before .before .before .before .before .before .before .before .before .before .before .before .before .before .bytes-of .ensures) .0)) _ _ _ _ _ ((c .before .before .before .before .before .before .before .before .before .before .before .before .before .before .found .given) .1) (found-note ((c .before .before .before .before .before .before .before .before .before .before .before .before .before .before .before .before .before .before .before .before .before .before .before .before .before .before .before .args .mem .now)) _ Load _ _ _ _ (len-is _ _ _ _ _ _ _ (c .before .before .before .before .before .before .before .before .before .before .before .before .before .before .before .before .look-one .ensures) ((c .before .before .before .before .before .before .before .before .before .before .before .before .before .before .before .before .before .bytes-of .ensures) .0)) ((c .before .before .before .before .before .before .before .before .before .before .before .before .before .before .found .given) .1) (width-some (c .before .before .before .before .before .before .before .before .before .before .before .before .before .before .before .before .before .before .before .before .before .width-of .result)) (aligned-fits (c .before .before .before .before .before .before .before .before .before .before .before .before .before .before .before .before .before .before .before .before .before .width-of .result) _ (on-is _ _ (c .before .before .before .before .before .before .before .before .before .before .before .before .before .before .before .before .before .before .before .before .is-off .ensures) (c .before .before .before .before .before .before .before .before .before .before .before .before .before .before .before .before .before .before .before .if1 .left))) _ (c .before .before .before .before .before .before .before .before .note .ensures)) (loaded _ _ _ _ _ _ _ (taken-done _ _ _ _ _ _ _ _ _ _ _ (ap bytesOf (c .before .before .before .before .before .before .before .before .before .before .before .before .before .before .before .before .before .before .before .before .before .width-of .ensures)) (taken-at _ (c .before .before .before .before .before .before .before .before .before .before .before .before .before .before .before .before .before .before .before .before .before .width-of .result) _ _ _ _ ((c .before .before .before .before .before .before .before .before .before .before .before .before .before .before .before .before .before .before .before .before .before .before .before .before .before .before .before .args .mem .now)) _ _ (c .before .before .before .before .before .before .before .before .before .before .before .before .before .before .before .before .before .before .before .before .before .width-of .ensures) (c .before .before .before .before .before .before .before .before .before .before .take .ensures) (found-read ((c .before .before .before .before .before .before .before .before .before .before .before .before .before .before .before .before .before .before .before .before .before .before .before .before .before .before .before .args .mem .now)) _ Load _ _ _ _ (len-is _ _ _ _ _ _ _ (c .before .before .before .before .before .before .before .before .before .before .before .before .before .before .before .before .look-one .ensures) ((c .before .before .before .before .before .before .before .before .before .before .before .before .before .before .before .before .before .bytes-of .ensures) .0)) ((c .before .before .before .before .before .before .before .before .before .before .before .before .before .before .found .given) .1) (width-some (c .before .before .before .before .before .before .before .before .before .before .before .before .before .before .before .before .before .before .before .before .before .width-of .result)) (aligned-fits (c .before .before .before .before .before .before .before .before .before .before .before .before .before .before .before .before .before .before .before .before .before .width-of .result) _ (on-is _ _ (c .before .before .before .before .before .before .before .before .before .before .before .before .before .before .before .before .before .before .before .before .is-off .ensures) (c .before .before .before .before .before .before .before .before .before .before .before .before .before .before .before .before .before .before .before .if1 .left))) _ (found-note ((c .before .before .before .before .before .before .before .before .before .before .before .before .before .before .before .before .before .before .before .before .before .before .before .before .before .before .before .args .mem .now)) _ Load _ _ _ _ (len-is _ _ _ _ _ _ _ (c .before .before .before .before .before .before .before .before .before .before .before .before .before .before .before .before .look-one .ensures) ((c .before .before .before .before .before .before .before .before .before .before .before .before .before .before .before .before .before .bytes-of .ensures) .0)) ((c .before .before .before .before .before .before .before .before .before .before .before .before .before .before .found .given) .1) (width-some (c .before .before .before .before .before .before .before .before .before .before .before .before .before .before .before .before .before .before .before .before .before .width-of .result)) (aligned-fits (c .before .before .before .before .before .before .before .before .before .before .before .before .before .before .before .before .before .before .before .before .before .width-of .result) _ (on-is _ _ (c .before .before .before .before .before .before .before .before .before .before .before .before .before .before .before .before .before .before .before .before .is-off .ensures) (c .before .before .before .before .before .before .before .before .before .before .before .before .before .before .before .before .before .before .before .if1 .left))) _ (c .before .before .before .before .before .before .before .before .note .ensures)))) (c .before .before .before .before .before .before .before .before .before .before .before .reg .ensures) (c .before .before .put-reg .ensures) (c .before .before .before .before .ahead-of .ensures))))
+returns-3 c = rw (← (c .before .before .before .before .before .before .before .before .before .before .before .before .before .before .before .before .before .before .before .before .before .width-of .ensures), ← (c .before .before .before .before .before .before .before .before .before .before .before .before .before .before .before .before .before .before .before .before .before .before .operand-address .ensures)) (operand-go _ _ _ _ _ _ _ _ _ tt (on-is _ _ (c .before .before .before .before .before .before .before .before .before .before .before .before .before .before .before .before .before .before .before .before .is-off .ensures) (c .before .before .before .before .before .before .before .before .before .before .before .before .before .before .before .before .before .before .before .if1 .left)) _ (len-is _ _ _ _ _ _ _ (c .before .before .before .before .before .before .before .before .before .before .before .before .before .before .before .before .look-one .ensures) ((c .before .before .before .before .before .before .before .before .before .before .before .before .before .before .before .before .before .bytes-of .ensures) .0)) _ _ _ _ _ ((c .before .before .before .before .before .before .before .before .before .before .before .before .before .before .found .given) .1) (found-note ((c .before .before .before .before .before .before .before .before .before .before .before .before .before .before .before .before .before .before .before .before .before .before .before .before .before .before .before .args .mem .now)) _ Load _ _ _ _ (len-is _ _ _ _ _ _ _ (c .before .before .before .before .before .before .before .before .before .before .before .before .before .before .before .before .look-one .ensures) ((c .before .before .before .before .before .before .before .before .before .before .before .before .before .before .before .before .before .bytes-of .ensures) .0)) ((c .before .before .before .before .before .before .before .before .before .before .before .before .before .before .found .given) .1) (width-some (c .before .before .before .before .before .before .before .before .before .before .before .before .before .before .before .before .before .before .before .before .before .width-of .result)) (aligned-fits (c .before .before .before .before .before .before .before .before .before .before .before .before .before .before .before .before .before .before .before .before .before .width-of .result) _ (on-is _ _ (c .before .before .before .before .before .before .before .before .before .before .before .before .before .before .before .before .before .before .before .before .is-off .ensures) (c .before .before .before .before .before .before .before .before .before .before .before .before .before .before .before .before .before .before .before .if1 .left))) _ (c .before .before .before .before .before .before .before .before .note .ensures)) (loaded _ _ _ _ _ _ _ (taken-done _ _ _ _ _ _ _ _ _ _ _ (ap bytesOf (c .before .before .before .before .before .before .before .before .before .before .before .before .before .before .before .before .before .before .before .before .before .width-of .ensures)) (taken-at _ (c .before .before .before .before .before .before .before .before .before .before .before .before .before .before .before .before .before .before .before .before .before .width-of .result) _ _ _ _ ((c .before .before .before .before .before .before .before .before .before .before .before .before .before .before .before .before .before .before .before .before .before .before .before .before .before .before .before .args .mem .now)) _ _ (c .before .before .before .before .before .before .before .before .before .before .before .before .before .before .before .before .before .before .before .before .before .width-of .ensures) (c .before .before .before .before .before .before .before .before .before .before .take .ensures) (found-read ((c .before .before .before .before .before .before .before .before .before .before .before .before .before .before .before .before .before .before .before .before .before .before .before .before .before .before .before .args .mem .now)) _ Load _ _ _ _ (len-is _ _ _ _ _ _ _ (c .before .before .before .before .before .before .before .before .before .before .before .before .before .before .before .before .look-one .ensures) ((c .before .before .before .before .before .before .before .before .before .before .before .before .before .before .before .before .before .bytes-of .ensures) .0)) ((c .before .before .before .before .before .before .before .before .before .before .before .before .before .before .found .given) .1) (width-some (c .before .before .before .before .before .before .before .before .before .before .before .before .before .before .before .before .before .before .before .before .before .width-of .result)) (aligned-fits (c .before .before .before .before .before .before .before .before .before .before .before .before .before .before .before .before .before .before .before .before .before .width-of .result) _ (on-is _ _ (c .before .before .before .before .before .before .before .before .before .before .before .before .before .before .before .before .before .before .before .before .is-off .ensures) (c .before .before .before .before .before .before .before .before .before .before .before .before .before .before .before .before .before .before .before .if1 .left))) _ (found-note ((c .before .before .before .before .before .before .before .before .before .before .before .before .before .before .before .before .before .before .before .before .before .before .before .before .before .before .before .args .mem .now)) _ Load _ _ _ _ (len-is _ _ _ _ _ _ _ (c .before .before .before .before .before .before .before .before .before .before .before .before .before .before .before .before .look-one .ensures) ((c .before .before .before .before .before .before .before .before .before .before .before .before .before .before .before .before .before .bytes-of .ensures) .0)) ((c .before .before .before .before .before .before .before .before .before .before .before .before .before .before .found .given) .1) (width-some (c .before .before .before .before .before .before .before .before .before .before .before .before .before .before .before .before .before .before .before .before .before .width-of .result)) (aligned-fits (c .before .before .before .before .before .before .before .before .before .before .before .before .before .before .before .before .before .before .before .before .before .width-of .result) _ (on-is _ _ (c .before .before .before .before .before .before .before .before .before .before .before .before .before .before .before .before .before .before .before .before .is-off .ensures) (c .before .before .before .before .before .before .before .before .before .before .before .before .before .before .before .before .before .before .before .if1 .left))) _ (c .before .before .before .before .before .before .before .before .note .ensures)))) (c .before .before .before .before .before .before .before .before .before .before .before .reg .ensures) (c .before .before .put-reg .ensures) (c .before .before .before .before .ahead-of .ensures))))
 
 pub load-spec : {M : Type 1} → statement M
 load-spec =

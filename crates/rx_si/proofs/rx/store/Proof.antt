@@ -63,7 +63,7 @@ same-length c = search needs
 -- src/rx.rt:95:9
 returns-2 : tie.Need-returns-2
 unfolding rx storing
-returns-2 c = rw (← (c .before .before .before .before .before .before .before .before .operand-address .ensures)) (operand-stop _ _ _ _ _ _ _ _ _ (on-is _ _ (c .before .before .before .before .before .before .before .is-off .ensures) (c .before .before .before .before .before .before .if1 .left)) _ (len-is _ _ _ _ _ _ _ (c .before .before .before .look-one .ensures) ((c .before .before .before .before .bytes-of .ensures) .0)) _ _ _ (width-some (c .before .before .before .before .before .before .before .before .before .before .before .before .args .width)) (c .refusal .ensures) ((c .before .enum-told .given) .1))
+returns-2 c = rw (← (c .before .before .before .before .before .before .before .before .operand-address .ensures)) (operand-stop _ _ _ _ _ _ _ _ _ tt (on-is _ _ (c .before .before .before .before .before .before .before .is-off .ensures) (c .before .before .before .before .before .before .if1 .left)) _ (len-is _ _ _ _ _ _ _ (c .before .before .before .look-one .ensures) ((c .before .before .before .before .bytes-of .ensures) .0)) _ _ _ (width-some (c .before .before .before .before .before .before .before .before .before .before .before .before .args .width)) (c .refusal .ensures) ((c .before .enum-told .given) .1))
 
 -- src/rx.rt:97:44
 reg-requires : tie.Need-reg-requires
@@ -96,7 +96,7 @@ same-length-3 c = search needs
 -- src/rx.rt:86:1
 returns-3 : tie.Need-returns-3
 unfolding rx storing reg
-returns-3 c = rw (← (c .before .before .before .before .before .before .before .before .before .before .before .before .before .before .before .before .before .before .before .before .before .before .operand-address .ensures), ← (c .before .before .before .before .before .before .before .before .before .before .before .before .reg .ensures), ← (c .ahead-of .ensures)) (operand-go _ _ _ _ _ _ _ _ _ (on-is _ _ (c .before .before .before .before .before .before .before .before .before .before .before .before .before .before .before .before .before .before .before .before .before .is-off .ensures) (c .before .before .before .before .before .before .before .before .before .before .before .before .before .before .before .before .before .before .before .before .if1 .left)) _ (len-is _ _ _ _ _ _ _ (c .before .before .before .before .before .before .before .before .before .before .before .before .before .before .before .before .before .look-one .ensures) ((c .before .before .before .before .before .before .before .before .before .before .before .before .before .before .before .before .before .before .bytes-of .ensures) .0)) _ _ _ _ _ ((c .before .before .before .before .before .before .before .before .before .before .before .before .before .before .before .found .given) .1) (found-note ((c .before .before .before .before .before .before .before .before .before .before .before .before .before .before .before .before .before .before .before .before .before .before .before .before .before .before .args .mem .now)) _ Store _ _ _ _ (len-is _ _ _ _ _ _ _ (c .before .before .before .before .before .before .before .before .before .before .before .before .before .before .before .before .before .look-one .ensures) ((c .before .before .before .before .before .before .before .before .before .before .before .before .before .before .before .before .before .before .bytes-of .ensures) .0)) ((c .before .before .before .before .before .before .before .before .before .before .before .before .before .before .before .found .given) .1) (width-some (c .before .before .before .before .before .before .before .before .before .before .before .before .before .before .before .before .before .before .before .before .before .before .before .before .before .before .args .width)) (aligned-fits (c .before .before .before .before .before .before .before .before .before .before .before .before .before .before .before .before .before .before .before .before .before .before .before .before .before .before .args .width) _ (on-is _ _ (c .before .before .before .before .before .before .before .before .before .before .before .before .before .before .before .before .before .before .before .before .before .is-off .ensures) (c .before .before .before .before .before .before .before .before .before .before .before .before .before .before .before .before .before .before .before .before .if1 .left))) _ (c .before .before .before .before .before .before .before .note .ensures)) (stored _ _ _ _ _ _ _ _ _ (found-write ((c .before .before .before .before .before .before .before .before .before .before .before .before .before .before .before .before .before .before .before .before .before .before .before .before .before .before .args .mem .now)) _ _ _ _ _ (len-is _ _ _ _ _ _ _ (c .before .before .before .before .before .before .before .before .before .before .before .before .before .before .before .before .before .look-one .ensures) ((c .before .before .before .before .before .before .before .before .before .before .before .before .before .before .before .before .before .before .bytes-of .ensures) .0)) ((c .before .before .before .before .before .before .before .before .before .before .before .before .before .before .before .found .given) .1) (width-some (c .before .before .before .before .before .before .before .before .before .before .before .before .before .before .before .before .before .before .before .before .before .before .before .before .before .before .args .width)) (aligned-fits (c .before .before .before .before .before .before .before .before .before .before .before .before .before .before .before .before .before .before .before .before .before .before .before .before .before .before .args .width) _ (on-is _ _ (c .before .before .before .before .before .before .before .before .before .before .before .before .before .before .before .before .before .before .before .before .before .is-off .ensures) (c .before .before .before .before .before .before .before .before .before .before .before .before .before .before .before .before .before .before .before .before .if1 .left))) _ _ _ _ (found-note ((c .before .before .before .before .before .before .before .before .before .before .before .before .before .before .before .before .before .before .before .before .before .before .before .before .before .before .args .mem .now)) _ Store _ _ _ _ (len-is _ _ _ _ _ _ _ (c .before .before .before .before .before .before .before .before .before .before .before .before .before .before .before .before .before .look-one .ensures) ((c .before .before .before .before .before .before .before .before .before .before .before .before .before .before .before .before .before .before .bytes-of .ensures) .0)) ((c .before .before .before .before .before .before .before .before .before .before .before .before .before .before .before .found .given) .1) (width-some (c .before .before .before .before .before .before .before .before .before .before .before .before .before .before .before .before .before .before .before .before .before .before .before .before .before .before .args .width)) (aligned-fits (c .before .before .before .before .before .before .before .before .before .before .before .before .before .before .before .before .before .before .before .before .before .before .before .before .before .before .args .width) _ (on-is _ _ (c .before .before .before .before .before .before .before .before .before .before .before .before .before .before .before .before .before .before .before .before .before .is-off .ensures) (c .before .before .before .before .before .before .before .before .before .before .before .before .before .before .before .before .before .before .before .before .if1 .left))) _ (c .before .before .before .before .before .before .before .note .ensures)) (c .before .before .before .before .before .before .before .before .before .before .before .put-field .ensures) (c .before .before .before .note-written .ensures)) refl))
+returns-3 c = rw (← (c .before .before .before .before .before .before .before .before .before .before .before .before .before .before .before .before .before .before .before .before .before .before .operand-address .ensures), ← (c .before .before .before .before .before .before .before .before .before .before .before .before .reg .ensures), ← (c .ahead-of .ensures)) (operand-go _ _ _ _ _ _ _ _ _ tt (on-is _ _ (c .before .before .before .before .before .before .before .before .before .before .before .before .before .before .before .before .before .before .before .before .before .is-off .ensures) (c .before .before .before .before .before .before .before .before .before .before .before .before .before .before .before .before .before .before .before .before .if1 .left)) _ (len-is _ _ _ _ _ _ _ (c .before .before .before .before .before .before .before .before .before .before .before .before .before .before .before .before .before .look-one .ensures) ((c .before .before .before .before .before .before .before .before .before .before .before .before .before .before .before .before .before .before .bytes-of .ensures) .0)) _ _ _ _ _ ((c .before .before .before .before .before .before .before .before .before .before .before .before .before .before .before .found .given) .1) (found-note ((c .before .before .before .before .before .before .before .before .before .before .before .before .before .before .before .before .before .before .before .before .before .before .before .before .before .before .args .mem .now)) _ Store _ _ _ _ (len-is _ _ _ _ _ _ _ (c .before .before .before .before .before .before .before .before .before .before .before .before .before .before .before .before .before .look-one .ensures) ((c .before .before .before .before .before .before .before .before .before .before .before .before .before .before .before .before .before .before .bytes-of .ensures) .0)) ((c .before .before .before .before .before .before .before .before .before .before .before .before .before .before .before .found .given) .1) (width-some (c .before .before .before .before .before .before .before .before .before .before .before .before .before .before .before .before .before .before .before .before .before .before .before .before .before .before .args .width)) (aligned-fits (c .before .before .before .before .before .before .before .before .before .before .before .before .before .before .before .before .before .before .before .before .before .before .before .before .before .before .args .width) _ (on-is _ _ (c .before .before .before .before .before .before .before .before .before .before .before .before .before .before .before .before .before .before .before .before .before .is-off .ensures) (c .before .before .before .before .before .before .before .before .before .before .before .before .before .before .before .before .before .before .before .before .if1 .left))) _ (c .before .before .before .before .before .before .before .note .ensures)) (stored _ _ _ _ _ _ _ _ _ (found-write ((c .before .before .before .before .before .before .before .before .before .before .before .before .before .before .before .before .before .before .before .before .before .before .before .before .before .before .args .mem .now)) _ _ _ _ _ (len-is _ _ _ _ _ _ _ (c .before .before .before .before .before .before .before .before .before .before .before .before .before .before .before .before .before .look-one .ensures) ((c .before .before .before .before .before .before .before .before .before .before .before .before .before .before .before .before .before .before .bytes-of .ensures) .0)) ((c .before .before .before .before .before .before .before .before .before .before .before .before .before .before .before .found .given) .1) (width-some (c .before .before .before .before .before .before .before .before .before .before .before .before .before .before .before .before .before .before .before .before .before .before .before .before .before .before .args .width)) (aligned-fits (c .before .before .before .before .before .before .before .before .before .before .before .before .before .before .before .before .before .before .before .before .before .before .before .before .before .before .args .width) _ (on-is _ _ (c .before .before .before .before .before .before .before .before .before .before .before .before .before .before .before .before .before .before .before .before .before .is-off .ensures) (c .before .before .before .before .before .before .before .before .before .before .before .before .before .before .before .before .before .before .before .before .if1 .left))) _ _ _ _ (found-note ((c .before .before .before .before .before .before .before .before .before .before .before .before .before .before .before .before .before .before .before .before .before .before .before .before .before .before .args .mem .now)) _ Store _ _ _ _ (len-is _ _ _ _ _ _ _ (c .before .before .before .before .before .before .before .before .before .before .before .before .before .before .before .before .before .look-one .ensures) ((c .before .before .before .before .before .before .before .before .before .before .before .before .before .before .before .before .before .before .bytes-of .ensures) .0)) ((c .before .before .before .before .before .before .before .before .before .before .before .before .before .before .before .found .given) .1) (width-some (c .before .before .before .before .before .before .before .before .before .before .before .before .before .before .before .before .before .before .before .before .before .before .before .before .before .before .args .width)) (aligned-fits (c .before .before .before .before .before .before .before .before .before .before .before .before .before .before .before .before .before .before .before .before .before .before .before .before .before .before .args .width) _ (on-is _ _ (c .before .before .before .before .before .before .before .before .before .before .before .before .before .before .before .before .before .before .before .before .before .is-off .ensures) (c .before .before .before .before .before .before .before .before .before .before .before .before .before .before .before .before .before .before .before .before .if1 .left))) _ (c .before .before .before .before .before .before .before .note .ensures)) (c .before .before .before .before .before .before .before .before .before .before .before .put-field .ensures) (c .before .before .before .note-written .ensures)) refl))
 
 pub store-spec : {M : Type 1} → statement M
 store-spec =

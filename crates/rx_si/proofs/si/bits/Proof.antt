@@ -48,7 +48,7 @@ same-length c = search needs
 -- src/si.rt:70:9
 returns : tie.Need-returns
 unfolding si
-returns c = rw (← (c .before .before .before .before .before .operand-address .ensures)) (byte-no _ _ _ _ _ _ _ _ ((c .before .before .before .look-one .ensures) ∙ one-byte _ _ _ _) _ _ _ (c .refusal .ensures) ((c .before .enum-told .given) .1))
+returns c = rw (← (c .before .before .before .before .before .operand-address .ensures)) (byte-no _ _ _ _ _ tt _ _ _ ((c .before .before .before .look-one .ensures) ∙ one-byte _ _ _ _) _ _ _ (c .refusal .ensures) ((c .before .enum-told .given) .1))
 
 -- src/si.rt:72:35
 byte-of-requires : tie.Need-byte-of-requires
@@ -93,7 +93,7 @@ same-length-3 c = search needs
 -- src/si.rt:64:1
 returns-2 : tie.Need-returns-2
 unfolding si
-returns-2 c = rw (← (c .before .before .before .before .before .before .before .before .before .before .before .before .before .before .before .before .before .before .before .before .before .before .before .operand-address .ensures), ← (c .before .before .ahead-of .ensures)) (byte-yes _ _ _ _ _ _ _ _ ((c .before .before .before .before .before .before .before .before .before .before .before .before .before .before .before .before .before .before .before .before .before .look-one .ensures) ∙ one-byte _ _ _ _) _ _ _ _ ((c .before .before .before .before .before .before .before .before .before .before .before .before .before .before .before .before .before .before .before .found .given) .1) (c .before .before .before .before .before .before .before .before .before .note .ensures) (unfold interp in rw (← ((c .before .before .before .before .before .before .before .before .before .before .before .before .before .before .before .before .byte-of .ensures) ∙ byte-read ((c .before .before .before .before .before .before .before .before .before .before .before .before .before .before .before .before .before .before .before .before .before .before .before .before .before .before .before .args .mem .now)) _ Store _ _ _ (c .before .before .before .before .before .before .before .before .before .before .before .before .before .before .before .before .before .before .before .before .before .look-one .ensures) ((c .before .before .before .before .before .before .before .before .before .before .before .before .before .before .before .before .before .before .before .found .given) .1) _ (c .before .before .before .before .before .before .before .before .before .note .ensures)), ← (c .before .before .before .before .before .before .before .before .before .before .before .before .before .before .before .logic-byte .ensures), ← byte-write ((c .before .before .before .before .before .before .before .before .before .before .before .before .before .before .before .before .before .before .before .before .before .before .before .before .before .before .before .args .mem .now)) _ _ _ _ (c .before .before .before .before .before .before .before .before .before .before .before .before .before .before .before .before .before .before .before .before .before .look-one .ensures) ((c .before .before .before .before .before .before .before .before .before .before .before .before .before .before .before .before .before .before .before .found .given) .1) _ _ _ _ (c .before .before .before .before .before .before .before .before .before .note .ensures) (c .before .before .before .before .before .before .before .before .before .before .before .before .before .put-byte .ensures) (c .before .before .before .before .before .note-written .ensures), (c .zero-code .ensures), (c .before .wide .ensures))))
+returns-2 c = rw (← (c .before .before .before .before .before .before .before .before .before .before .before .before .before .before .before .before .before .before .before .before .before .before .before .operand-address .ensures), ← (c .before .before .ahead-of .ensures)) (byte-yes _ _ _ _ _ tt _ _ _ ((c .before .before .before .before .before .before .before .before .before .before .before .before .before .before .before .before .before .before .before .before .before .look-one .ensures) ∙ one-byte _ _ _ _) _ _ _ _ ((c .before .before .before .before .before .before .before .before .before .before .before .before .before .before .before .before .before .before .before .found .given) .1) (c .before .before .before .before .before .before .before .before .before .note .ensures) (unfold interp in rw (← ((c .before .before .before .before .before .before .before .before .before .before .before .before .before .before .before .before .byte-of .ensures) ∙ byte-read ((c .before .before .before .before .before .before .before .before .before .before .before .before .before .before .before .before .before .before .before .before .before .before .before .before .before .before .before .args .mem .now)) _ Store _ _ _ (c .before .before .before .before .before .before .before .before .before .before .before .before .before .before .before .before .before .before .before .before .before .look-one .ensures) ((c .before .before .before .before .before .before .before .before .before .before .before .before .before .before .before .before .before .before .before .found .given) .1) _ (c .before .before .before .before .before .before .before .before .before .note .ensures)), ← (c .before .before .before .before .before .before .before .before .before .before .before .before .before .before .before .logic-byte .ensures), ← byte-write ((c .before .before .before .before .before .before .before .before .before .before .before .before .before .before .before .before .before .before .before .before .before .before .before .before .before .before .before .args .mem .now)) _ _ _ _ (c .before .before .before .before .before .before .before .before .before .before .before .before .before .before .before .before .before .before .before .before .before .look-one .ensures) ((c .before .before .before .before .before .before .before .before .before .before .before .before .before .before .before .before .before .before .before .found .given) .1) _ _ _ _ (c .before .before .before .before .before .before .before .before .before .note .ensures) (c .before .before .before .before .before .before .before .before .before .before .before .before .before .put-byte .ensures) (c .before .before .before .before .before .note-written .ensures), (c .zero-code .ensures), (c .before .wide .ensures))))
 
 pub bits-spec : {M : Type 1} → statement M
 bits-spec =

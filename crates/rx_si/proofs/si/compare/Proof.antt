@@ -45,7 +45,7 @@ same-length c = search needs
 -- src/si.rt:34:9
 returns : tie.Need-returns
 unfolding si
-returns c = rw (← (c .before .before .before .before .before .operand-address .ensures)) (byte-no _ _ _ _ _ _ _ _ ((c .before .before .before .look-one .ensures) ∙ one-byte _ _ _ _) _ _ _ (c .refusal .ensures) ((c .before .enum-told .given) .1))
+returns c = rw (← (c .before .before .before .before .before .operand-address .ensures)) (byte-no _ _ _ _ _ tt _ _ _ ((c .before .before .before .look-one .ensures) ∙ one-byte _ _ _ _) _ _ _ (c .refusal .ensures) ((c .before .enum-told .given) .1))
 
 -- src/si.rt:36:9
 byte-of-requires : tie.Need-byte-of-requires
@@ -78,7 +78,7 @@ same-length-2 c = search needs
 -- src/si.rt:28:1
 returns-2 : tie.Need-returns-2
 unfolding si
-returns-2 c = rw (← (c .before .before .before .before .before .before .before .before .before .before .before .before .before .before .operand-address .ensures), ← (c .before .before .before .ahead-of .ensures)) (byte-yes _ _ _ _ _ _ _ _ ((c .before .before .before .before .before .before .before .before .before .before .before .before .look-one .ensures) ∙ one-byte _ _ _ _) _ _ _ _ ((c .before .before .before .before .before .before .before .before .before .before .found .given) .1) (c .before .before .before .before .before .before .note .ensures) (unfold interp in rw (← ((c .before .before .before .before .before .before .before .before .byte-of .ensures) ∙ byte-read ((c .before .before .before .before .before .before .before .before .before .before .before .before .before .before .before .before .before .before .args .mem .now)) _ Load _ _ _ (c .before .before .before .before .before .before .before .before .before .before .before .before .look-one .ensures) ((c .before .before .before .before .before .before .before .before .before .before .found .given) .1) _ (c .before .before .before .before .before .before .note .ensures)), (c .compare-bits .ensures), (c .before .before .wide .ensures), (c .before .wide2 .ensures))))
+returns-2 c = rw (← (c .before .before .before .before .before .before .before .before .before .before .before .before .before .before .operand-address .ensures), ← (c .before .before .before .ahead-of .ensures)) (byte-yes _ _ _ _ _ tt _ _ _ ((c .before .before .before .before .before .before .before .before .before .before .before .before .look-one .ensures) ∙ one-byte _ _ _ _) _ _ _ _ ((c .before .before .before .before .before .before .before .before .before .before .found .given) .1) (c .before .before .before .before .before .before .note .ensures) (unfold interp in rw (← ((c .before .before .before .before .before .before .before .before .byte-of .ensures) ∙ byte-read ((c .before .before .before .before .before .before .before .before .before .before .before .before .before .before .before .before .before .before .args .mem .now)) _ Load _ _ _ (c .before .before .before .before .before .before .before .before .before .before .before .before .look-one .ensures) ((c .before .before .before .before .before .before .before .before .before .before .found .given) .1) _ (c .before .before .before .before .before .before .note .ensures)), (c .compare-bits .ensures), (c .before .before .wide .ensures), (c .before .wide2 .ensures))))
 
 pub compare-spec : {M : Type 1} → statement M
 compare-spec =

@@ -44,7 +44,7 @@ same-length c = search needs
 -- src/si.rt:90:9
 returns : tie.Need-returns
 unfolding si
-returns c = rw (← (c .before .before .before .before .before .operand-address .ensures)) (byte-no _ _ _ _ _ _ _ _ ((c .before .before .before .look-one .ensures) ∙ one-byte _ _ _ _) _ _ _ (c .refusal .ensures) ((c .before .enum-told .given) .1))
+returns c = rw (← (c .before .before .before .before .before .operand-address .ensures)) (byte-no _ _ _ _ _ tt _ _ _ ((c .before .before .before .look-one .ensures) ∙ one-byte _ _ _ _) _ _ _ (c .refusal .ensures) ((c .before .enum-told .given) .1))
 
 -- src/si.rt:92:5
 put-byte-requires : tie.Need-put-byte-requires
@@ -73,7 +73,7 @@ same-length-3 c = search needs
 -- src/si.rt:84:1
 returns-2 : tie.Need-returns-2
 unfolding si
-returns-2 c = rw (← (c .before .before .before .before .before .before .before .before .before .before .before .before .before .before .before .before .before .before .operand-address .ensures), ← (c .ahead-of .ensures)) (byte-yes _ _ _ _ _ _ _ _ ((c .before .before .before .before .before .before .before .before .before .before .before .before .before .before .before .before .look-one .ensures) ∙ one-byte _ _ _ _) _ _ _ _ ((c .before .before .before .before .before .before .before .before .before .before .before .before .before .before .found .given) .1) (c .before .before .before .before .before .before .before .note .ensures) (unfold interp in rw (← byte-write ((c .before .before .before .before .before .before .before .before .before .before .before .before .before .before .before .before .before .before .before .before .before .before .args .mem .now)) _ _ _ _ (c .before .before .before .before .before .before .before .before .before .before .before .before .before .before .before .before .look-one .ensures) ((c .before .before .before .before .before .before .before .before .before .before .before .before .before .before .found .given) .1) _ _ _ _ (c .before .before .before .before .before .before .before .note .ensures) (c .before .before .before .before .before .before .before .before .before .before .before .put-byte .ensures) (c .before .before .before .note-written .ensures))))
+returns-2 c = rw (← (c .before .before .before .before .before .before .before .before .before .before .before .before .before .before .before .before .before .before .operand-address .ensures), ← (c .ahead-of .ensures)) (byte-yes _ _ _ _ _ tt _ _ _ ((c .before .before .before .before .before .before .before .before .before .before .before .before .before .before .before .before .look-one .ensures) ∙ one-byte _ _ _ _) _ _ _ _ ((c .before .before .before .before .before .before .before .before .before .before .before .before .before .before .found .given) .1) (c .before .before .before .before .before .before .before .note .ensures) (unfold interp in rw (← byte-write ((c .before .before .before .before .before .before .before .before .before .before .before .before .before .before .before .before .before .before .before .before .before .before .args .mem .now)) _ _ _ _ (c .before .before .before .before .before .before .before .before .before .before .before .before .before .before .before .before .look-one .ensures) ((c .before .before .before .before .before .before .before .before .before .before .before .before .before .before .found .given) .1) _ _ _ _ (c .before .before .before .before .before .before .before .note .ensures) (c .before .before .before .before .before .before .before .before .before .before .before .put-byte .ensures) (c .before .before .before .note-written .ensures))))
 
 pub store-spec : {M : Type 1} → statement M
 store-spec =

@@ -1,5 +1,5 @@
--- How a step can end. Its refusals have demand 1's numbers; what it is done with is a state in range; and a refusal hands back the store
--- that it began with. The first two go once through all actions.
+-- How an action can end, once through all actions. Its refusals have demand 1's numbers; what it is done with is a state in range; it looks
+-- bytes up for operands only, so a refusal hands back what it would have handed back when the action began.
 use Prim.Native.Nat.{ℕ, zero, suc, _+_, _*_, _%_, _<_}
 use native.Mathlib.Omega.{arith}
 use mathlib.Core.Path.{_≡_, refl, _∙_}
@@ -33,10 +33,6 @@ use Rattle.code.specs.declared.Operand.{Operand}
 use Rattle.code.specs.declared.Operand.the-variants.{WordWith, HalfWith, ByteInserted}
 use Rattle.code.specs.declared.Branch.{Branch}
 use Rattle.code.specs.declared.Branch.the-variants.{OnCondition, AndLink, OnCount}
-use Rattle.code.specs.declared.Action.{Action}
-use Rattle.code.specs.declared.Action.the-variants.{Rr, Rx, Rs, Si, Ss}
-use Rattle.code.specs.declared.Found.{Found}
-use Rattle.code.specs.declared.Found.the-variants.{Known, Unknown}
 use Rattle.code.specs.declared.RrFields.{RrFields}
 use Rattle.code.specs.declared.RrAction.{RrAction}
 use Rattle.code.specs.declared.RrAction.the-variants.{Registers, RegisterBranch, PairAndRegister}
@@ -52,10 +48,8 @@ use Rattle.code.specs.declared.SiAction.the-variants.{CompareByte, TestMask, Bi
 use Rattle.code.specs.declared.SsFields.{SsFields}
 use Rattle.code.specs.declared.SsAction.{SsAction}
 use Rattle.code.specs.declared.SsAction.the-variants.{MoveField, CompareField}
-use Rattle.code.specs.Table.{actionOf}
-use Rattle.code.specs.Formats.{opOf, rrOf, rxOf, rsOf, siOf, ssOf}
-use Rattle.machine.specs.Prog.{Prog, done, fail, look, get, put, Ops, Answer, finished, refused, after, interp}
-use Rattle.machine.specs.Fields.{looks, gets, puts, moves, compares, bytesOf, loading, storing, halfword}
+use Rattle.machine.specs.Prog.{Prog, done, fail, look, get, put, Ops, Answer, finished, refused, keeps, after, interp}
+use Rattle.machine.specs.Fields.{looks, gets, puts, moves, compares, bytesOf, loading, storing}
 use Rattle.machine.specs.Cpu.{Cpu, reg, withReg, withCode, withPc, withRes, ahead, onward, address, target}
 use Rattle.machine.specs.Pairs.{pair, withPair, intoPair}
 use Rattle.machine.specs.Branches.{going, chosen, link, lessOne, branch}
@@ -64,7 +58,7 @@ use Rattle.machine.specs.Rx.{taken, rx, widthOf, rxAddress}
 use Rattle.machine.specs.Rs.{rs, fills, spills, nextReg, nextWord, howMany, rsAddress, isHigh, indexSum, shiftedWord, shiftedPair}
 use Rattle.machine.specs.Si.{si}
 use Rattle.machine.specs.Ss.{ss, firstAddress, secondAddress}
-use Rattle.machine.specs.Step.{act, known, step}
+use Rattle.machine.proofs.Operands.{ForOperand, keeps-none}
 use Rattle.demand.specs.DemandOne.{Refusal}
 
 -- a state in range, as number 6 asks for it
@@ -79,28 +73,28 @@ caused Addressing = inl (omega arith, omega arith)
 caused PagingQueue = inl (omega arith, omega arith)
 caused PagingError = inl (omega arith, omega arith)
 
-two : Refusal 2
+pub two : Refusal 2
 two = inl (omega arith, omega arith)
 
-five : Refusal 5
+pub five : Refusal 5
 five = inl (omega arith, omega arith)
 
 eight : Refusal 8
 eight = inr refl
 
--- every way out of a program: refused by itself with such a number, or done with such a result
+-- every way out of a program that fetches nothing: refused by itself with such a number, or done with such a result
 unfoldable pub Ends : {R : Type 0} → (R → Type 0) → Prog R → Type 0
 Ends D (done r) = D r
 Ends D (fail n a) = Refusal n
-Ends D (look acc a k) = Ends D k
+Ends D (look acc a k) = ForOperand acc × Ends D k
 Ends D (get a k) = (v : ℕ) → Ends D (k v)
 Ends D (put a v k) = Ends D k
 
 module _ {R : Type 0} (D : R → Type 0) where
-  looks-ends : (acc : Access) (a n : ℕ) (k : Prog R) → Ends D k → Ends D (looks acc a n k)
+  looks-ends : (acc : Access) → ForOperand acc → (a n : ℕ) (k : Prog R) → Ends D k → Ends D (looks acc a n k)
   unfolding Ends looks
-  looks-ends acc a zero k h = h
-  looks-ends acc a (suc n) k h = looks-ends acc (next a) n k h
+  looks-ends acc f a zero k h = h
+  looks-ends acc f a (suc n) k h = (f, looks-ends acc f (next a) n k h)
 
   gets-ends : (a n v : ℕ) (k : ℕ → Prog R) → ((w : ℕ) → Ends D (k w)) → Ends D (gets a n v k)
   unfolding Ends gets
@@ -128,15 +122,11 @@ module _ {R : Type 0} (D : R → Type 0) where
 
   loading-ends : (n a : ℕ) (k : ℕ → Prog R) → ((v : ℕ) → Ends D (k v)) → Ends D (loading n a k)
   unfolding loading
-  loading-ends n a k h = tested-ends (eqb (a % n) 0) a _ (looks-ends access.Load a n _ (gets-ends a n 0 k h))
+  loading-ends n a k h = tested-ends (eqb (a % n) 0) a _ (looks-ends access.Load tt a n _ (gets-ends a n 0 k h))
 
   storing-ends : (n a v : ℕ) (k : Prog R) → Ends D k → Ends D (storing n a v k)
   unfolding storing
-  storing-ends n a v k h = tested-ends (eqb (a % n) 0) a _ (looks-ends access.Store a n _ (puts-ends a n v k h))
-
-  halfword-ends : (a : ℕ) (k : ℕ → Prog R) → ((v : ℕ) → Ends D (k v)) → Ends D (halfword a k)
-  unfolding halfword
-  halfword-ends a k h = looks-ends access.Fetch a 2 _ (gets-ends a 2 0 k h)
+  storing-ends n a v k h = tested-ends (eqb (a % n) 0) a _ (looks-ends access.Store tt a n _ (puts-ends a n v k h))
 
 -- codes are below 4
 pick-small : (n : ℕ) (b : Bool) (x y : ℕ) → x < n → y < n → pick b x y < n
@@ -275,7 +265,7 @@ module _ (c : Cpu) (h : Sound c) where
   into-ends (Value v) len r = pair-sound (onward c len) r v (ahead-sound c len h)
   into-ends DivideError len r = eight
 
-  rr-ends : (x : RrAction) (f : RrFields) → Ends Sound (rr x f c)
+  pub rr-ends : (x : RrAction) (f : RrFields) → Ends Sound (rr x f c)
   unfolding Ends rr
   rr-ends (Registers op) f =
       res-sound (onward c 2) (f .r1) (combineOf op (reg c (f .r1)) (reg c (f .r2)) (c .code))
@@ -284,7 +274,7 @@ module _ (c : Cpu) (h : Sound c) where
   rr-ends (PairAndRegister op) f =
       tested-ends Sound (eqb (f .r1 % 2) 0) (c .pc) _ (into-ends (pairOf op (pair c (f .r1)) (reg c (f .r2))) 2 (f .r1))
 
-  rx-ends : (x : RxAction) (f : RxFields) → Ends Sound (rx x f c)
+  pub rx-ends : (x : RxAction) (f : RxFields) → Ends Sound (rx x f c)
   unfolding Ends rx
   rx-ends (Taking op) f =
       loading-ends Sound (bytesOf (widthOf op)) (rxAddress f c) _
@@ -304,15 +294,15 @@ module _ (c : Cpu) (h : Sound c) where
       going-sound b (rsAddress f c) (withReg (onward c 4) (f .r1) (indexSum f c)) (address-small c 0 (f .b2) (f .d2))
       (reg-sound (onward c 4) (f .r1) (indexSum f c) (ahead-sound c 4 h))
 
-  rs-ends : (x : RsAction) (f : RsFields) → Ends Sound (rs x f c)
+  pub rs-ends : (x : RsAction) (f : RsFields) → Ends Sound (rs x f c)
   unfolding Ends rs shiftedWord shiftedPair
   rs-ends LoadMultiple f =
       tested-ends Sound (eqb (rsAddress f c % 4) 0) (rsAddress f c) _
-      (looks-ends Sound access.Load (rsAddress f c) (howMany f * 4) _
+      (looks-ends Sound access.Load tt (rsAddress f c) (howMany f * 4) _
       (fills-ends (howMany f) (f .r1) (rsAddress f c) (onward c 4) (ahead-sound c 4 h)))
   rs-ends StoreMultiple f =
       tested-ends Sound (eqb (rsAddress f c % 4) 0) (rsAddress f c) _
-      (looks-ends Sound access.Store (rsAddress f c) (howMany f * 4) _
+      (looks-ends Sound access.Store tt (rsAddress f c) (howMany f * 4) _
       (spills-ends (howMany f) (f .r1) (rsAddress f c) c (done (onward c 4)) (ahead-sound c 4 h)))
   rs-ends ShiftLeft f = reg-sound (onward c 4) (f .r1) _ (ahead-sound c 4 h)
   rs-ends ShiftRight f = reg-sound (onward c 4) (f .r1) _ (ahead-sound c 4 h)
@@ -326,46 +316,26 @@ module _ (c : Cpu) (h : Sound c) where
       (code-sound (withPair (onward c 4) (f .r1) (shiftedPair d f c .value)) (shiftedPair d f c .code)
       (shifted-small d doubleTop (pair c (f .r1)) (rsAddress f c)) (pair-sound (onward c 4) (f .r1) _ (ahead-sound c 4 h)))
 
-  si-ends : (x : SiAction) (f : SiFields) → Ends Sound (si x f c)
+  pub si-ends : (x : SiAction) (f : SiFields) → Ends Sound (si x f c)
   unfolding Ends si
-  si-ends CompareByte f = λ v. code-sound (onward c 4) _ (bits-small v (f .i2)) (ahead-sound c 4 h)
-  si-ends TestMask f = λ v. code-sound (onward c 4) _ (mask-small v (f .i2)) (ahead-sound c 4 h)
-  si-ends (BitsByte l) f = λ v. code-sound (onward c 4) _ (zero-four _) (ahead-sound c 4 h)
-  si-ends MoveByte f = ahead-sound c 4 h
+  si-ends CompareByte f = (tt, λ v. code-sound (onward c 4) _ (bits-small v (f .i2)) (ahead-sound c 4 h))
+  si-ends TestMask f = (tt, λ v. code-sound (onward c 4) _ (mask-small v (f .i2)) (ahead-sound c 4 h))
+  si-ends (BitsByte l) f = (tt, λ v. code-sound (onward c 4) _ (zero-four _) (ahead-sound c 4 h))
+  si-ends MoveByte f = (tt, ahead-sound c 4 h)
 
-  ss-ends : (x : SsAction) (f : SsFields) → Ends Sound (ss x f c)
+  pub ss-ends : (x : SsAction) (f : SsFields) → Ends Sound (ss x f c)
   unfolding Ends ss
   ss-ends MoveField f =
-      looks-ends Sound access.Store (firstAddress f c) (suc (f .l)) _
-      (looks-ends Sound access.Load (secondAddress f c) (suc (f .l)) _
+      looks-ends Sound access.Store tt (firstAddress f c) (suc (f .l)) _
+      (looks-ends Sound access.Load tt (secondAddress f c) (suc (f .l)) _
       (moves-ends Sound (firstAddress f c) (secondAddress f c) (suc (f .l)) (done (onward c 6)) (ahead-sound c 6 h)))
   ss-ends CompareField f =
-      looks-ends Sound access.Load (firstAddress f c) (suc (f .l)) _
-      (looks-ends Sound access.Load (secondAddress f c) (suc (f .l)) _
+      looks-ends Sound access.Load tt (firstAddress f c) (suc (f .l)) _
+      (looks-ends Sound access.Load tt (secondAddress f c) (suc (f .l)) _
       (compares-ends Sound (firstAddress f c) (secondAddress f c) (suc (f .l)) _
       (λ k l. code-sound (onward c 6) k l (ahead-sound c 6 h))))
 
-  act-ends : (x : Action) (h1 : ℕ) → Ends Sound (act x h1 c)
-  unfolding act
-  act-ends (Rr x) h1 = rr-ends x (rrOf h1)
-  act-ends (Rx x) h1 = halfword-ends Sound (ahead c 2) _ (λ h2. rx-ends x (rxOf h1 h2))
-  act-ends (Rs x) h1 = halfword-ends Sound (ahead c 2) _ (λ h2. rs-ends x (rsOf h1 h2))
-  act-ends (Si x) h1 = halfword-ends Sound (ahead c 2) _ (λ h2. si-ends x (siOf h1 h2))
-  act-ends (Ss x) h1 =
-      halfword-ends Sound (ahead c 2) _ (λ h2. halfword-ends Sound (ahead c 4) _ (λ h3. ss-ends x (ssOf h1 h2 h3)))
-
-  known-ends : (x : Found) (h1 : ℕ) → Ends Sound (known x h1 c)
-  unfolding Ends
-  known-ends (Known x) h1 = act-ends x h1
-  known-ends Unknown h1 = five
-
-  pub step-ends : Ends Sound (step c)
-  unfolding Ends step
-  step-ends =
-      pick-ends Sound (eqb (c .pc % 2) 1) (fail 2 (c .pc)) _ two
-      (halfword-ends Sound (c .pc) _ (λ h1. known-ends (actionOf (opOf h1)) h1))
-
--- what a program came to: done with such a result, or refused with such a number, the store as it was
+-- what a program came to: done with such a result, or refused with such a number and this store
 abbrev pub Came : {R S : Type 0} → (R → Type 0) → S → Answer R S → Type 0
 Came D kept (finished r t) = D r
 Came D kept (refused n a t) = Refusal n × (t ≡ kept)
@@ -380,6 +350,7 @@ module _ {R S : Type 0} (o : Ops S) (D : R → Type 0) (kept : S) where
   came (done r) s h = h
   came (fail n a) s h = (h, refl)
   came (look acc a k) s h =
-      by-verdict (o .looked s acc a) (λ t. interp o k kept t) (o .noted s acc a) a (came k (o .noted s acc a) h)
+      by-verdict (o .looked s acc a) (λ t. interp o k (keeps o acc a kept) t) (o .noted s acc a) a
+      (rw (keeps-none o acc (h .0) a kept) (came k (o .noted s acc a) (h .1)))
   came (get a k) s h = came (k (o .read s a)) s (h (o .read s a))
   came (put a v k) s h = came k (o .wrote s a v) h
