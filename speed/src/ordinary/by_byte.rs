@@ -11,8 +11,10 @@ pub struct Field {
 }
 
 #[inline(always)]
-fn fetch_byte(store: &Store, address: u32) -> Result<u8, Refusal> {
-    Ok(store.memory[store.look(address, Purpose::Read)?])
+fn fetch_byte(store: &mut Store, address: u32) -> Result<u8, Refusal> {
+    let real = store.look(address, Purpose::Read)?;
+    store.mark(page_of(address), ACCESSED);
+    Ok(store.memory[real])
 }
 
 #[inline(always)]
@@ -42,29 +44,22 @@ impl Access for ByByte {
     type Long = Field;
 
     #[inline(always)]
-    fn fetch(store: &Store, counter: u32) -> Result<([u8; 2], ()), Refusal> {
+    fn fetch(store: &mut Store, counter: u32) -> Result<([u8; 2], ()), Refusal> {
         let first = fetch_byte(store, counter)?;
         Ok(([first, fetch_byte(store, onward(counter, 1))?], ()))
     }
 
     #[inline(always)]
     fn fetch_more<const N: usize>(
-        store: &Store,
+        store: &mut Store,
         counter: u32,
-        _: &mut (),
+        _: (),
     ) -> Result<[u8; N], Refusal> {
         let mut bytes = [0; N];
         for (i, byte) in (2..).zip(&mut bytes) {
             *byte = fetch_byte(store, onward(counter, i))?;
         }
         Ok(bytes)
-    }
-
-    #[inline(always)]
-    fn mark_fetched(store: &mut Store, counter: u32, length: u32, _: ()) {
-        for i in 0..length {
-            store.mark(page_of(onward(counter, i)), ACCESSED);
-        }
     }
 
     #[inline(always)]

@@ -5,13 +5,6 @@ use std::cmp::Ordering;
 
 pub struct ByPage;
 
-/// The pages of an instruction; `last` is `first` again where it lies in one.
-pub struct Code {
-    real: usize,
-    first: usize,
-    last: usize,
-}
-
 #[derive(Clone, Copy)]
 pub struct Place {
     real: usize,
@@ -83,22 +76,18 @@ fn stretch(
     })
 }
 
-/// The bytes after the first halfword where a page ends among them or before them, and the page of the last.
+/// The bytes after the first halfword where a page ends among them or before them.
 #[cold]
 #[inline(never)]
-fn fetch_over_an_edge<const N: usize>(
-    store: &Store,
-    counter: u32,
-) -> Result<([u8; N], usize), Refusal> {
+fn fetch_over_an_edge<const N: usize>(store: &mut Store, counter: u32) -> Result<[u8; N], Refusal> {
     let mut bytes = [0; N];
-    let mut last = 0;
     for (i, half) in (1..).zip(bytes.chunks_exact_mut(2)) {
         let address = onward(counter, 2 * i);
         let real = store.look(address, Purpose::Read)?;
+        store.mark(page_of(address), ACCESSED);
         half.copy_from_slice(&store.memory[real..real + 2]);
-        last = page_of(address);
     }
-    Ok((bytes, last))
+    Ok(bytes)
 }
 
 /// A move between two stretches of real memory: as a slice where they do not overlap, and byte by byte where they do.
@@ -114,37 +103,28 @@ fn move_stretch(memory: &mut [u8], to: usize, from: usize, length: usize) {
 }
 
 impl Access for ByPage {
-    type Code = Code;
+    /// The first halfword's real address.
+    type Code = usize;
     type Short = Place;
     type Long = Field;
 
     #[inline(always)]
-    fn fetch(store: &Store, counter: u32) -> Result<([u8; 2], Code), Refusal> {
+    fn fetch(store: &mut Store, counter: u32) -> Result<([u8; 2], usize), Refusal> {
         let real = store.look(counter, Purpose::Read)?;
-        let first = page_of(counter);
-        let last = first;
-        Ok((bytes_at(store, real), Code { real, first, last }))
+        store.mark(page_of(counter), ACCESSED);
+        Ok((bytes_at(store, real), real))
     }
 
     #[inline(always)]
     fn fetch_more<const N: usize>(
-        store: &Store,
+        store: &mut Store,
         counter: u32,
-        code: &mut Code,
+        real: usize,
     ) -> Result<[u8; N], Refusal> {
         if store.room(counter) >= 2 + N {
-            return Ok(bytes_at(store, code.real + 2));
-        }
-        let (bytes, last) = fetch_over_an_edge(store, counter)?;
-        code.last = last;
-        Ok(bytes)
-    }
-
-    #[inline(always)]
-    fn mark_fetched(store: &mut Store, _: u32, _: u32, code: Code) {
-        store.mark(code.first, ACCESSED);
-        if code.last != code.first {
-            store.mark(code.last, ACCESSED);
+            Ok(bytes_at(store, real + 2))
+        } else {
+            fetch_over_an_edge(store, counter)
         }
     }
 

@@ -72,43 +72,40 @@ impl<'a, A: Access> Cpu<'a, A> {
     }
 
     /// One instruction. The counter is moved on before the work, so that a branch can set it and a link can hold it, and is put
-    /// back if the work is refused; nothing else is changed before the last refusal that is possible.
+    /// back if the work is refused; nothing else is changed before the last refusal that is possible, but for the marks of what
+    /// was fetched.
     #[inline(always)]
     pub fn step(&mut self) -> Result<(), Refusal> {
         let counter = self.counter;
         if counter & 1 != 0 {
             return refuse(SPECIFICATION, counter);
         }
-        let ([operation, second], mut code) = A::fetch(&self.store, counter)?;
+        let ([operation, second], code) = A::fetch(&mut self.store, counter)?;
         if !IN_SET[usize::from(operation)] {
             return refuse(OPERATION, counter);
         }
-        let length = match operation >> 6 {
+        match operation >> 6 {
             0 => {
                 self.counter = onward(counter, 2);
                 if let Err(refusal) = self.rr(operation, second) {
                     self.counter = counter;
                     return Err(refusal);
                 }
-                2
             }
             1 | 2 => {
-                let rest = A::fetch_more::<2>(&self.store, counter, &mut code)?;
+                let rest = A::fetch_more::<2>(&mut self.store, counter, code)?;
                 self.counter = onward(counter, 4);
                 if let Err(refusal) = self.four_bytes(operation, second, rest) {
                     self.counter = counter;
                     return Err(refusal);
                 }
-                4
             }
             _ => {
-                let rest = A::fetch_more::<4>(&self.store, counter, &mut code)?;
+                let rest = A::fetch_more::<4>(&mut self.store, counter, code)?;
                 self.ss(operation, second, rest)?;
                 self.counter = onward(counter, 6);
-                6
             }
-        };
-        A::mark_fetched(&mut self.store, counter, length, code);
+        }
         Ok(())
     }
 

@@ -140,7 +140,8 @@ impl Store<'_> {
     }
 }
 
-/// A way to reach storage. Looking up alters nothing; loading and saving, which come after, set the marks of what they reach.
+/// A way to reach storage. Fetching marks the pages that it reaches, whatever becomes of the instruction. Looking an operand up alters
+/// nothing; loading and saving, which come after, set the marks of what they reach.
 pub trait Access {
     /// Where an instruction was fetched from.
     type Code;
@@ -149,14 +150,13 @@ pub trait Access {
     /// Up to 256 bytes anywhere.
     type Long;
 
-    fn fetch(store: &Store, counter: u32) -> Result<([u8; 2], Self::Code), Refusal>;
+    fn fetch(store: &mut Store, counter: u32) -> Result<([u8; 2], Self::Code), Refusal>;
     /// The `N` bytes after the first halfword.
     fn fetch_more<const N: usize>(
-        store: &Store,
+        store: &mut Store,
         counter: u32,
-        code: &mut Self::Code,
+        code: Self::Code,
     ) -> Result<[u8; N], Refusal>;
-    fn mark_fetched(store: &mut Store, counter: u32, length: u32, code: Self::Code);
 
     fn short<const N: usize>(
         store: &Store,
