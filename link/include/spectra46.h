@@ -36,8 +36,10 @@
  *   7  the budget is spent: a run only. Place 0, count is the budget
  *   8  divide error: the divisor is zero, or the quotient does not fit a register. Place: the program counter
  *
- * Numbers 1 to 6 and 8 alter nothing in the step that they refuse: memory, map, registers, counter, code and mask are as they were
- * after the steps that count tells.
+ * Number 6 alters nothing at all. Numbers 1 to 5 and 8 leave memory, registers, counter, code and mask as they were after the steps that
+ * count tells, and the map too, but for one mark: G (0x4000) is set on each page from which a halfword of the refused instruction was
+ * fetched. At an odd counter nothing is fetched; of an operation that is not in the set only the first halfword is; a page that was only
+ * looked up for an operand gets no mark. So the cause can be mended and the same lists lent again: the same instruction is tried anew.
  *
  * Versions. A caller compares the library that it is linked with to the header that it was compiled with, before any other call:
  *
@@ -61,8 +63,8 @@
 extern "C" {
 #endif
 
-/* This header's version, 0.5.0, as one number: major * 65,536 + minor * 256 + patch. */
-#define SPECTRA46_VERSION 1280
+/* This header's version, 0.6.0, as one number: major * 65,536 + minor * 256 + patch. */
+#define SPECTRA46_VERSION 1536
 
 enum {
     SPECTRA46_COMPLETED = 0,

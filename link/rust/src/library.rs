@@ -135,7 +135,7 @@ mod tests {
         for number_of in [0, 1_024, 0x01_02_03, 0xFFFF_FFFF] {
             assert_eq!(number(Version::of(number_of)), number_of);
         }
-        assert_eq!(Version::of(1_280).to_string(), "0.5.0");
+        assert_eq!(Version::of(1_536).to_string(), "0.6.0");
         assert_eq!(decimal("1203"), 1203);
     }
 

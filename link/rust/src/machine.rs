@@ -131,7 +131,7 @@ impl Machine {
         self.lend(raw::step).of_step()
     }
 
-    /// At most `budget` instructions, 0 to 65,535, up to the first refusal.
+    /// At most `budget` instructions, 0 to 65,535, up to the first refusal. What that leaves is said at [`Refusal`].
     ///
     /// ```
     /// use spectra46::{Machine, Refusal, Stop};

@@ -6,6 +6,21 @@ use core::fmt;
 
 /// Why the machine would not do an instruction. `at` is the place that it reports: a virtual address of 24 bits.
 ///
+/// Number 6 alters nothing. Any other leaves memory, registers, counter, code and mask as they were before that instruction, and the page
+/// words too, but for one mark: G, `0x4000`, is set on each page from which a halfword of the instruction was fetched. So the cause can be
+/// mended, and the machine goes on with the same instruction.
+///
+/// ```
+/// use spectra46::{Machine, Refusal};
+///
+/// let mut machine = Machine::new(65_536)?;
+/// machine.pages[10] = 0x3003; // its first two bytes are zeros: no operation of the set
+/// machine.counter = 0x00_A000;
+/// assert_eq!(machine.step(), Err(Refusal::Operation { at: 0x00_A000 }));
+/// assert_eq!((machine.counter, machine.pages[10]), (0x00_A000, 0x7003));
+/// # Ok::<(), spectra46::WrongLibrary>(())
+/// ```
+///
 /// More will come: a `match` needs an arm for the rest, and that arm has to take it as a refusal.
 #[derive(Clone, Copy, Debug, PartialEq, Eq, Hash)]
 #[non_exhaustive]

@@ -28,20 +28,28 @@ fn runs(machine: &mut Machine, budget: u32, count: u32, stop: Stop) {
     assert_eq!((ran.count, ran.stop), (count, stop));
 }
 
-/// A refused step leaves the whole machine as it was.
-fn refuses(mut machine: Machine, refusal: Refusal) {
-    let before = machine.clone();
-    assert_eq!(machine.step(), Err(refusal));
-    assert_eq!(machine, before);
-    runs(&mut machine, 5, 0, Stop::Refused(refusal));
-    assert_eq!(machine, before);
+/// A refused step leaves the whole machine as it was, but for G on the pages that it was fetched from. Tried again, it is refused alike,
+/// and nothing further is altered; a run from the same start leaves the same.
+fn refuses(machine: Machine, refusal: Refusal, fetched_from: &[usize]) {
+    let mut left = machine.clone();
+    for &page in fetched_from {
+        left.pages[page] |= 0x4000;
+    }
+    let mut stepped = machine.clone();
+    assert_eq!(stepped.step(), Err(refusal));
+    assert_eq!(stepped, left);
+    let mut run = machine;
+    for _ in 0..2 {
+        runs(&mut run, 5, 0, Stop::Refused(refusal));
+        assert_eq!(run, left);
+    }
 }
 
 /// A change to the machine that step and run have to refuse with 6.
 fn is_out_of_range(change: impl Fn(&mut Machine)) {
     let mut changed = machine(&LA_1_5);
     change(&mut changed);
-    refuses(changed, Refusal::OutOfRange);
+    refuses(changed, Refusal::OutOfRange, &[]);
 }
 
 #[test]
@@ -64,30 +72,34 @@ fn number_0_a_step_completed() {
 fn number_1_addressing() {
     let mut machine = machine(&L_1_AT_2);
     machine.registers[2] = 0x20_0000;
-    refuses(machine, Refusal::Addressing { at: 0x20_0000 });
+    refuses(machine, Refusal::Addressing { at: 0x20_0000 }, &[10]);
 }
 
 #[test]
 fn number_2_specification() {
     let mut machine = machine(&L_1_AT_2);
     machine.registers[2] = 0x00_A002;
-    refuses(machine.clone(), Refusal::Specification { at: 0x00_A002 });
+    refuses(
+        machine.clone(),
+        Refusal::Specification { at: 0x00_A002 },
+        &[10],
+    );
     machine.counter = 0x00_A001;
-    refuses(machine, Refusal::Specification { at: 0x00_A001 });
+    refuses(machine, Refusal::Specification { at: 0x00_A001 }, &[]);
 }
 
 #[test]
 fn number_2_an_odd_register_for_a_pair() {
     let mut machine = machine(&DR_5_6);
     machine.registers[6] = 1;
-    refuses(machine, Refusal::Specification { at: 0x00_A000 });
+    refuses(machine, Refusal::Specification { at: 0x00_A000 }, &[10]);
 }
 
 #[test]
 fn number_3_paging_queue() {
     let mut machine = machine(&L_1_AT_2);
     machine.registers[2] = 0x00_B000;
-    refuses(machine, Refusal::PagingQueue { at: 0x00_B000 });
+    refuses(machine, Refusal::PagingQueue { at: 0x00_B000 }, &[10]);
 }
 
 #[test]
@@ -95,18 +107,22 @@ fn number_4_paging_error() {
     let mut machine = machine(&ST_1_AT_2);
     machine.pages[11] = 0x3804;
     machine.registers[2] = 0x00_B010;
-    refuses(machine, Refusal::PagingError { at: 0x00_B010 });
+    refuses(machine, Refusal::PagingError { at: 0x00_B010 }, &[10]);
 }
 
 #[test]
 fn number_5_operation() {
-    refuses(machine(&[0, 0]), Refusal::Operation { at: 0x00_A000 });
+    refuses(
+        machine(&[0, 0]),
+        Refusal::Operation { at: 0x00_A000 },
+        &[10],
+    );
 }
 
 #[test]
 fn number_6_out_of_range() {
     for bytes in [0, 4_095, 6_144, 262_145, 266_240] {
-        refuses(sized(bytes), Refusal::OutOfRange);
+        refuses(sized(bytes), Refusal::OutOfRange, &[]);
     }
     is_out_of_range(|machine| machine.counter = 1 << 24);
     is_out_of_range(|machine| machine.code = 4);
@@ -171,17 +187,50 @@ fn number_7_budget_spent() {
 
 #[test]
 fn number_8_divide_error() {
-    refuses(machine(&DR_4_6), Refusal::DivideError { at: 0x00_A000 });
+    let error = Refusal::DivideError { at: 0x00_A000 };
+    refuses(machine(&DR_4_6), error, &[10]);
     let mut machine = machine(&D_4_AT_2);
     machine.registers[2] = 0x00_A800;
-    refuses(machine.clone(), Refusal::DivideError { at: 0x00_A000 });
+    refuses(machine.clone(), error, &[10]);
     // 2^31 by 1 does not fit, and -2^31 does.
     machine.memory[12_288 + 0x803] = 1;
     machine.registers[5] = 0x8000_0000;
-    refuses(machine.clone(), Refusal::DivideError { at: 0x00_A000 });
+    refuses(machine.clone(), error, &[10]);
     machine.registers[4] = 0xFFFF_FFFF;
     assert_eq!(machine.step(), Ok(()));
     assert_eq!(machine.registers[4..6], [0, 0x8000_0000]);
+}
+
+/// L 1,0(2) over the edge of page 10, with what page 11 has.
+fn over_the_edge(word: u16) -> Machine {
+    let mut machine = machine(&[]);
+    machine.counter = 0x00_AFFE;
+    machine.pages[11] = word;
+    machine.memory[12_288 + 4_094..][..4].copy_from_slice(&L_1_AT_2);
+    machine.registers[2] = 0x00_C000;
+    machine
+}
+
+#[test]
+fn a_refusal_keeps_the_marks_of_the_fetch() {
+    let absent = |at| Refusal::PagingQueue { at };
+    refuses(over_the_edge(0), absent(0x00_B000), &[10]);
+    refuses(over_the_edge(0x3004), absent(0x00_C000), &[10, 11]);
+    let mut nowhere = over_the_edge(0x3004);
+    nowhere.counter = 0x00_C000;
+    refuses(nowhere, absent(0x00_C000), &[]);
+}
+
+/// MVC 0(1,2),0(3) from an absent page to page 11, whose word is this: found for the move, it gets no mark.
+#[test]
+fn an_operand_that_was_looked_up_gets_no_mark() {
+    for word in [0x3004, 0x7004, 0xF004] {
+        let mut machine = machine(&[0xD2, 0x00, 0x20, 0x00, 0x30, 0x00]);
+        machine.pages[11] = word;
+        machine.registers[2] = 0x00_B000;
+        machine.registers[3] = 0x00_C000;
+        refuses(machine, Refusal::PagingQueue { at: 0x00_C000 }, &[10]);
+    }
 }
 
 #[test]
