@@ -19,6 +19,7 @@ use Rattle.machine.specs.Rx.{rx, taken}
 use Rattle.machine.specs.Si.{si}
 use Rattle.machine.specs.Step.{act, step}
 use Rattle.machine.specs.Machine.{Given, Outcome, proper, cpuIn, storeIn, runOutcome}
+use Rattle.demand.specs.FetchedFrom.{fetchedIn, upToRefused}
 use Rattle.demand.specs.Plain.{Plain, shown, bare, lookPlain, notePlain, stored, readPlain, writePlain, plainRun}
 use Rattle.demand.specs.Premise.{Inside, Apart}
 
@@ -110,3 +111,17 @@ past-shows : BothSee 1 (loaded storeAndFetch past 0x00a000) 11
     (7 ∷ 0 ∷ 1 ∷ 0x00a004 ∷ 0 ∷ 0xf000 ∷ [])
 unfolding computes
 past-shows = (refl, refl)
+
+-- Page 11 absent: both machines refuse the store, and both keep G on page 10, from which its two halfwords were fetched.
+abbrev absent : Given
+absent = loaded storeAndFetch (set noPages 10 0x3000) 0x00a000
+
+both-keep-g : BothSee 1 absent 10
+    (3 ∷ 0x00b000 ∷ 0 ∷ 0x00a000 ∷ 0 ∷ 0x7000 ∷ [])
+    (3 ∷ 0x00b000 ∷ 0 ∷ 0x00a000 ∷ 0 ∷ 0x7000 ∷ [])
+unfolding computes
+both-keep-g = (refl, refl)
+
+two-halfwords : fetchedIn (storeIn absent) (cpuIn absent) ≡ 0x00a000 ∷ 0x00a002 ∷ []
+unfolding computes fetchedIn upToRefused
+two-halfwords = refl

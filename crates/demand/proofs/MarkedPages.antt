@@ -12,7 +12,9 @@ use Rattle.pages.proofs.Marks.{changed-keeps, changed-comm, accessed-again}
 use Rattle.machine.specs.Prog.{Prog, Answer, finished, refused, interp}
 use Rattle.machine.specs.Store.{framed}
 use Rattle.machine.proofs.MarksLast.{late, onStore}
-use Rattle.demand.specs.FetchedFrom.{allAccessed}
+use Rattle.machine.specs.Machine.{Given, Outcome, cpuIn, storeIn}
+use Rattle.demand.specs.FetchedFrom.{fetchedIn, allAccessed, leftBy}
+use Rattle.demand.specs.DemandOne.{handed}
 use Rattle.demand.proofs.StepLeaves.{marked}
 
 -- one more mark, before the others or after them
@@ -96,3 +98,17 @@ marked-page map (b ∷ bs) a m l =
         ∙ here
         ∙ all-accessed map bs (pageOf a)
     go (inr k) later = later k ∙ changed-keeps accessed accessed accessed-twice map (pageOf b) (pageOf a)
+
+-- the same of what a refusal hands back (demand 1's `trace`): the word of a page from which no halfword was fetched, and of one from which
+-- one was
+module _ (g : Given) (o : Outcome) (left : handed o ≡ leftBy g) where
+  left-map : o .map ≡ allAccessed (g .map) (fetchedIn (storeIn g) (cpuIn g))
+  unfolding leftBy
+  left-map = ap (λ (h : Given). h .map) left
+
+  pub left-other : (p : ℕ) → ((a : ℕ) → List·Memᴰ a (fetchedIn (storeIn g) (cpuIn g)) → pageOf a ≢ p) → wordOf (o .map) p ≡ wordOf (g .map) p
+  left-other p h = ap (λ (m : List ℕ). wordOf m p) left-map ∙ other-page (g .map) (fetchedIn (storeIn g) (cpuIn g)) p h
+
+  pub left-marked : (a : ℕ) → List·Memᴰ a (fetchedIn (storeIn g) (cpuIn g)) → pageOf a < length (g .map)
+      → wordOf (o .map) (pageOf a) ≡ accessed (wordOf (g .map) (pageOf a))
+  left-marked a m l = ap (λ (x : List ℕ). wordOf x (pageOf a)) left-map ∙ marked-page (g .map) (fetchedIn (storeIn g) (cpuIn g)) a m l

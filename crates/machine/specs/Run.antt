@@ -1,5 +1,5 @@
 -- A run: at most a budget of steps, up to the first refusal. Its count is the number of completed steps, and what it hands back is the
--- state and the store after exactly that many.
+-- state and the store after exactly that many; after a refusal, the store as the refused instruction left it.
 use Prim.Native.Nat.{ℕ, zero, suc}
 use Rattle.machine.specs.Prog.{Prog, Ops, Answer, finished, refused, interp}
 
@@ -10,7 +10,8 @@ pub record Result (C S : Type 0) : Type 0 where
   pub cpu : C
   pub held : S
 
--- one step: 0 and count 1 where it completed; where it was refused, the number, the place and the state as it was
+-- one step: 0 and count 1 where it completed; where it was refused, the number, the place, the state as it was and the store that the
+-- refusal hands back
 abbrev pub one : {C S : Type 0} → C → Answer C S → Result C S
 one c (finished c′ s) = record { stop = 0; place = 0; count = 1; cpu = c′; held = s }
 one c (refused n a s) = record { stop = n; place = a; count = 0; cpu = c; held = s }
