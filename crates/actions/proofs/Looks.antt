@@ -2,28 +2,25 @@
 use Prim.Native.Nat.{ℕ, zero, suc, _<_, _%_}
 use native.Mathlib.Omega.{arith}
 use mathlib.Core.Path.{_≡_, refl, sym, _∙_, ap}
-use mathlib.Core.Bool.{Bool, true, false}
 use mathlib.Core.List.{List, [], _∷_}
 use borrow.Author.Tests.{eq-eqb, ne-eqb}
-use lib.Dec.{eqb}
 use lib.ListN.{length}
-use Rattle.words.specs.Pick.{pick}
 use Rattle.pages.specs.declared.Access.{Access}
 use Rattle.pages.specs.declared.Cause.{Cause}
 use Rattle.pages.specs.declared.Look.{Look}
 use Rattle.pages.specs.declared.Look.the-variants.{At, Refused}
 use Rattle.pages.specs.Word.{next}
 use Rattle.pages.specs.Tests.{numberOf}
-use Rattle.pages.specs.Look.{lookOf, verdictOf}
-use Rattle.pages.specs.Framed.{Framed, framedOf, accessedAt, lookIn, noted}
+use Rattle.pages.specs.Look.{lookOf}
+use Rattle.pages.specs.Framed.{Framed, framedOf, accessedAt}
 use Rattle.pages.proofs.LookLaws.{refused-place}
-use Rattle.machine.specs.Prog.{Prog, fail, look, Answer, refused, interp}
+use Rattle.machine.specs.Prog.{Prog, fail, look, refused, interp}
 use Rattle.machine.specs.Fields.{looks, aligned}
 use Rattle.machine.specs.Store.{framed}
 use Rattle.machine.proofs.Operands.{ForOperand, keeps-none}
 use Rattle.fields.specs.declared.Field.{Field}
 use Rattle.fields.specs.Direct.{orElse, lookField, lookFields, lookOne, noteField}
-use Rattle.fields.proofs.Bridge.{afterLook, notedField, looks-is, field-blind}
+use Rattle.fields.proofs.Bridge.{afterLook, looks-is, field-blind}
 
 -- a field's look-up is its own refusal, or what comes next
 pub field-cases : (map : List ℕ) (size : ℕ) (acc : Access) (a n : ℕ) (rest : Look) (r : ℕ)

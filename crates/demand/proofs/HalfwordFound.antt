@@ -1,9 +1,9 @@
 -- A halfword on its boundary, in a memory of an even number of bytes: where its first byte is found, its second is, in the same page. So
 -- a halfword is fetched whole or refused at its own address.
-use Prim.Native.Nat.{ℕ, _+_, _*_, _%_, _<_, _≤_}
+use Prim.Native.Nat.{ℕ, _+_, _*_, _%_, _<_}
 use native.Mathlib.Omega.{arith}
 use native.Mathlib.Decide.{decLt}
-use mathlib.Core.Path.{_≡_, refl, sym, _∙_, ap}
+use mathlib.Core.Path.{_≡_, refl, sym, _∙_}
 use mathlib.Core.Bool.{Bool, true, false}
 use borrow.Author.Tests.{ltb-true, lt-ltb, leb-false, lt-leb, le-leb}
 use lib.Dec.{eqb, leb, ltb}
@@ -11,13 +11,11 @@ use lib.ListN.{length}
 use Rattle.words.specs.Pick.{pick, both}
 use Rattle.pages.specs.declared.Access.the-variants.{Fetch}
 use Rattle.pages.specs.declared.Cause.the-variants.{Addressing}
-use Rattle.pages.specs.declared.Look.{Look}
 use Rattle.pages.specs.declared.Look.the-variants.{At, Refused}
 use Rattle.pages.specs.Word.{bitM, bitH, frame, base, real, next, pageOf, dispOf, wordOf}
 use Rattle.pages.specs.Tests.{Verdict, fine, bad, tests, sixTests}
 use Rattle.pages.specs.Look.{lookOf, testSeven}
 use Rattle.pages.specs.Framed.{Framed, lookIn}
-use Rattle.demand.specs.FetchedFrom.{isFound}
 
 -- a frame and a half frame begin at even addresses
 base-even : (w : ℕ) → base w % 2 ≡ 0

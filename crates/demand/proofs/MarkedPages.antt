@@ -7,7 +7,7 @@ use mathlib.Core.List.{List, [], _∷_, List·Memᴰ, List·Memᴰ·head, List·
 use lib.ListN.{length, length-set}
 use lib.Seq.{getD-set-same, getD-set-other}
 use Rattle.pages.specs.Word.{pageOf, wordOf, accessed}
-use Rattle.pages.specs.Framed.{Framed, framedOf, accessedAt, noted}
+use Rattle.pages.specs.Framed.{Framed, accessedAt, noted}
 use Rattle.pages.proofs.Marks.{changed-keeps, changed-comm, accessed-again}
 use Rattle.machine.specs.Prog.{Prog, Answer, finished, refused, interp}
 use Rattle.machine.specs.Store.{framed}

@@ -1,9 +1,9 @@
 -- How a step can end: done with a state in range, or refused with one of demand 1's numbers; and then the store is as it was, but for G on
 -- the pages from which a halfword was fetched.
-use Prim.Native.Nat.{ℕ, _+_, _*_, _%_, _<_}
+use Prim.Native.Nat.{ℕ, _+_, _*_, _%_}
 use native.Mathlib.Omega.{arith}
 use native.Mathlib.Nat.{zero-add}
-use mathlib.Core.Path.{_≡_, refl, sym, _∙_, ap, subst}
+use mathlib.Core.Path.{_≡_, refl, _∙_, ap}
 use mathlib.Core.Bool.{Bool, true, false}
 use mathlib.Core.List.{List, [], _∷_}
 use borrow.Author.Tests.{eqb-false}
@@ -13,17 +13,16 @@ use Rattle.words.specs.Pick.{pick, both}
 use Rattle.pages.specs.declared.Access.the-variants.{Fetch}
 use Rattle.pages.specs.declared.Look.{Look}
 use Rattle.pages.specs.declared.Look.the-variants.{At, Refused}
-use Rattle.pages.specs.Word.{next, pageOf}
+use Rattle.pages.specs.Word.{next}
 use Rattle.pages.specs.Look.{verdictOf}
-use Rattle.pages.specs.Framed.{Framed, framedOf, accessedAt, lookIn, noted, readByte}
+use Rattle.pages.specs.Framed.{Framed, framedOf, lookIn, noted, readByte}
 use Rattle.pages.proofs.Marks.{accessed-again}
-use Rattle.code.specs.declared.Action.{Action}
 use Rattle.code.specs.declared.Action.the-variants.{Rr, Rx, Rs, Si, Ss}
 use Rattle.code.specs.declared.Found.{Found}
 use Rattle.code.specs.declared.Found.the-variants.{Known, Unknown}
 use Rattle.code.specs.Table.{actionOf}
 use Rattle.code.specs.Formats.{opOf, rrOf, rxOf, rsOf, siOf, ssOf}
-use Rattle.machine.specs.Prog.{Prog, fail, Answer, refused, interp}
+use Rattle.machine.specs.Prog.{Prog, fail, interp}
 use Rattle.machine.specs.Fields.{halfword}
 use Rattle.machine.specs.Store.{framed}
 use Rattle.machine.specs.Cpu.{Cpu, ahead}
@@ -35,7 +34,7 @@ use Rattle.machine.specs.Ss.{ss}
 use Rattle.machine.specs.Step.{act, known, step}
 use Rattle.machine.proofs.MarksLast.{blind, read-noted}
 use Rattle.machine.proofs.Fetches.{half-refused, half-fetched}
-use Rattle.demand.specs.FetchedFrom.{isFound, fetchable, halfwordAt, halfwordsOf, upToRefused, fetchedIn, allAccessed}
+use Rattle.demand.specs.FetchedFrom.{isFound, halfwordAt, halfwordsOf, upToRefused, fetchedIn, allAccessed}
 use Rattle.demand.proofs.ActionEnds.{Sound, Came, came, caused, two, five, rr-ends, rx-ends, rs-ends, si-ends, ss-ends}
 use Rattle.demand.proofs.HalfwordFound.{found-page, second-found}
 

@@ -7,11 +7,10 @@ use mathlib.Core.Bool.{Bool, true, false}
 use mathlib.Core.List.{List}
 use lib.Dec.{ltb}
 use lib.ListN.{length, getD}
-use Rattle.pages.specs.declared.Access.the-variants.{Fetch, Load}
-use Rattle.pages.specs.declared.Look.{Look}
+use Rattle.pages.specs.declared.Access.the-variants.{Fetch}
 use Rattle.pages.specs.declared.Look.the-variants.{At}
 use Rattle.pages.specs.Compact.{realOf, compact}
-use Rattle.pages.specs.Word.{pageOf, next, accessed}
+use Rattle.pages.specs.Word.{pageOf, next}
 use Rattle.pages.specs.Look.{lookOf}
 use Rattle.pages.specs.Framed.{Framed, framedOf, accessedAt, noted, readAt, readByte}
 use Rattle.pages.proofs.Marks.{accessed-again}
@@ -20,12 +19,11 @@ use Rattle.machine.specs.Prog.{Prog, done, finished, interp}
 use Rattle.machine.specs.Fields.{halfword}
 use Rattle.machine.specs.Store.{framed}
 use Rattle.machine.proofs.MarksLast.{blind, read-noted}
-use Rattle.fields.specs.Direct.{orElse, lookField, lookOne, readField, flat}
+use Rattle.fields.specs.Direct.{lookField, lookOne, readField, flat}
 use Rattle.fields.proofs.Found.{any-load}
 use Rattle.fields.proofs.Bridge.{gets-is}
-use Rattle.engine.specs.declared.Fetched.{Fetched}
 use Rattle.engine.specs.declared.Fetched.the-variants as T
-use Rattle.engine.specs.Entry.{past, halvesOf, markedIf, halfMarks, wantedHalf, furtherText, text, fetching, fetched}
+use Rattle.engine.specs.Entry.{past, halvesOf, halfMarks, wantedHalf, furtherText, text, fetching, fetched}
 use Rattle.engine.proofs.Halfwords.{half-comes}
 
 -- a read does not see a mark

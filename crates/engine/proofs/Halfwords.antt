@@ -33,9 +33,6 @@ module _ {R : Type 0} (mem map : List ℕ) (a : ℕ) (k : ℕ → Prog R) where
   unfolding lookOne lookField halfMarks readField
   half-comes = go (lookOf map (length mem) Fetch a) refl (lookOf map (length mem) Fetch (next a)) refl
     where
-      s : Framed
-      s = framedOf mem map
-
       go : (l : Look) → lookOf map (length mem) Fetch a ≡ l → (m : Look) → lookOf map (length mem) Fetch (next a) ≡ m
           → interp framed (halfword a k) (framedOf mem map) (framedOf mem map)
           ≡ fromThere (orElse l (orElse m l)) a k

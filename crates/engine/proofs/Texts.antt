@@ -1,10 +1,9 @@
 -- A step by its text: the halfwords, as they are fetched one after the other, and then the action on them.
-use Prim.Native.Nat.{ℕ, _%_, _<_}
-use native.Mathlib.Omega.{arith}
+use Prim.Native.Nat.{ℕ, _%_}
 use mathlib.Core.Path.{_≡_, refl, sym, _∙_, ap}
 use mathlib.Core.List.{List}
 use borrow.Author.Tests.{eq-eqb, ne-eqb}
-use lib.Dec.{eqb, ltb}
+use lib.Dec.{ltb}
 use lib.ListN.{length}
 use Rattle.pages.specs.declared.Access.the-variants.{Fetch}
 use Rattle.pages.specs.declared.Cause.{Cause}
@@ -12,7 +11,7 @@ use Rattle.pages.specs.declared.Look.{Look}
 use Rattle.pages.specs.declared.Look.the-variants.{At, Refused}
 use Rattle.pages.specs.Tests.{numberOf}
 use Rattle.pages.specs.Framed.{Framed, framedOf}
-use Rattle.machine.specs.Prog.{Prog, done, Answer, finished, refused, interp}
+use Rattle.machine.specs.Prog.{Prog, done, Answer, refused, interp}
 use Rattle.machine.specs.Run.{Result, one}
 use Rattle.machine.specs.Store.{framed}
 use Rattle.machine.specs.Cpu.{Cpu, ahead}
@@ -30,8 +29,7 @@ use Rattle.code.specs.Table.{actionOf}
 use Rattle.code.specs.Formats.{opOf, rxOf, rsOf, siOf, ssOf}
 use Rattle.fields.specs.Direct.{lookOne, readField}
 use Rattle.actions.specs.declared.Now.{Now}
-use Rattle.actions.specs.declared.Out.{Out}
-use Rattle.actions.specs.declared.Out.the-variants.{Done, Stop}
+use Rattle.actions.specs.declared.Out.the-variants.{Stop}
 use Rattle.actions.specs.Answered.{cpuOf, told, doing}
 use Rattle.engine.specs.declared.Fetched.{Fetched}
 use Rattle.engine.specs.declared.Fetched.the-variants as T

@@ -1,34 +1,31 @@
 -- The window: what holds of it every step keeps, and in it the text needs no look-up and the page no mark.
-use Prim.Native.Nat.{ℕ, zero, suc, _+_, _-_, _*_, _/_, _%_, _<_, _≤_}
+use Prim.Native.Nat.{ℕ, _+_, _-_, _*_, _/_, _%_, _<_, _≤_}
 use native.Mathlib.Omega.{arith}
 use native.Mathlib.Decide.{ℕ-discrete, decLt}
 use mathlib.Core.Path.{_≡_, refl, sym, _∙_, ap, subst}
 use mathlib.Core.Bool.{Bool, true, false}
 use mathlib.Core.List.{List}
-use borrow.Author.Tests.{eqb-true, leb-true, ltb-true, eq-eqb, ne-eqb, lt-ltb, le-leb, lt-leb}
+use borrow.Author.Tests.{eqb-true, leb-true, ltb-true, lt-ltb, le-leb}
 use lib.Dec.{eqb, leb, ltb}
 use lib.ListN.{length, getD, set, List·getD-eq-default}
 use lib.Seq.{getD-set-same, getD-set-other, set-out}
-use Rattle.words.specs.Pick.{pick, both}
-use Rattle.pages.specs.declared.Access.{Access}
+use Rattle.words.specs.Pick.{both}
 use Rattle.pages.specs.declared.Access.the-variants.{Fetch, Store}
-use Rattle.pages.specs.declared.Cause.{Cause}
 use Rattle.pages.specs.declared.Look.{Look}
 use Rattle.pages.specs.declared.Look.the-variants.{At, Refused}
-use Rattle.pages.specs.Word.{bitG, bitE, base, real, wordOf, pageOf, dispOf, accessed, written}
+use Rattle.pages.specs.Word.{bitG, base, real, wordOf, pageOf, dispOf, accessed, written}
 use Rattle.pages.specs.Tests.{Verdict, fine, bad}
 use Rattle.pages.specs.Look.{verdictOf}
 use Rattle.pages.specs.Framed.{Framed, framedOf, accessedAt, writtenAt, lookIn, noted, readByte, writeByte, writeAt}
 use Rattle.pages.specs.Compact.{ordinary, compact, realOf}
 use Rattle.words.proofs.Tests.{left-of, right-of}
-use Rattle.pages.proofs.Marks.{Quiet, changed, accessed-quiet, written-quiet, base-quiet, accessed-old}
-use Rattle.machine.specs.Prog.{Prog, done, fail, look, get, put, Answer, finished, refused, keeps, after, interp}
+use Rattle.pages.proofs.Marks.{changed, accessed-quiet, written-quiet, base-quiet, accessed-old}
+use Rattle.machine.specs.Prog.{Prog, done, fail, look, get, put, finished, keeps, after, interp}
 use Rattle.machine.specs.Store.{framed}
-use Rattle.machine.specs.Cpu.{Cpu}
 use Rattle.machine.specs.Step.{step}
 use Rattle.actions.specs.declared.Now.{Now}
 use Rattle.actions.specs.declared.Out.{Out}
-use Rattle.actions.specs.declared.Out.the-variants.{Done, Stop}
+use Rattle.actions.specs.declared.Out.the-variants.{Done}
 use Rattle.actions.specs.Answered.{cpuOf, told, doing}
 use Rattle.engine.specs.declared.Window.{Window}
 use Rattle.engine.specs.Entry.{Held, Ready, inside}

@@ -33,7 +33,6 @@ use Rattle.machine.specs.Rx.{rx}
 use Rattle.machine.specs.Rs.{rs}
 use Rattle.machine.specs.Si.{si}
 use Rattle.machine.specs.Ss.{ss}
-use Rattle.actions.specs.declared.Now.{Now}
 use Rattle.actions.specs.Answered.{cpuOf}
 use Rattle.engine.specs.declared.Fetched.{Fetched}
 use Rattle.engine.specs.declared.Fetched.the-variants as T

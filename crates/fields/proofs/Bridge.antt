@@ -1,22 +1,20 @@
 -- Each field program over the framed store comes to its direct form.
 use Prim.Native.Nat.{ℕ, zero, suc, _+_, _*_, _/_, _%_, _^_}
-use mathlib.Core.Path.{_≡_, refl, sym, _∙_, ap}
+use mathlib.Core.Path.{_≡_, refl, _∙_, ap}
 use mathlib.Core.Bool.{Bool, true, false}
-use mathlib.Core.List.{List}
 use lib.Dec.{eqb}
 use lib.ListN.{length}
 use Rattle.words.specs.Pick.{pick}
 use Rattle.words.specs.Codes.{compareBits}
 use Rattle.pages.specs.declared.Access.{Access}
-use Rattle.pages.specs.declared.Cause.{Cause}
 use Rattle.pages.specs.declared.Look.{Look}
 use Rattle.pages.specs.declared.Look.the-variants.{At, Refused}
 use Rattle.pages.specs.Word.{next}
 use Rattle.pages.specs.Tests.{numberOf}
-use Rattle.pages.specs.Look.{lookOf, verdictOf}
+use Rattle.pages.specs.Look.{verdictOf}
 use Rattle.pages.specs.Framed.{Framed, framedOf, accessedAt, lookIn, noted, readByte, writeByte}
 use Rattle.pages.proofs.LookLaws.{refused-place}
-use Rattle.machine.specs.Prog.{Prog, look, Answer, finished, refused, after, interp}
+use Rattle.machine.specs.Prog.{Prog, Answer, refused, after, interp}
 use Rattle.machine.specs.Fields.{looks, gets, puts, moves, compares}
 use Rattle.machine.specs.Store.{framed}
 use Rattle.machine.proofs.MarksLast.{blind}

@@ -3,17 +3,16 @@
 use Prim.Native.Nat.{ℕ}
 use mathlib.Core.Path.{_≡_, refl, sym, _∙_, ap}
 use mathlib.Core.List.{List}
-use lib.ListN.{length, getD, set}
+use lib.ListN.{length, set}
 use Rattle.pages.specs.declared.Access.{Access}
 use Rattle.pages.specs.declared.Access.the-variants.{Fetch, Load, Store}
-use Rattle.pages.specs.declared.Cause.{Cause}
 use Rattle.pages.specs.declared.Look.{Look}
 use Rattle.pages.specs.declared.Look.the-variants.{At, Refused}
 use Rattle.pages.specs.Word.{accessed, written, pageOf}
-use Rattle.pages.specs.Tests.{Verdict, fine, bad, numberOf}
-use Rattle.pages.specs.Look.{lookOf, verdictOf}
+use Rattle.pages.specs.Tests.{Verdict, fine, bad}
+use Rattle.pages.specs.Look.{verdictOf}
 use Rattle.pages.specs.Framed.{Framed, framedOf, accessedAt, writtenAt, lookIn, noted, readAt, readByte, writeAt, writeByte}
-use Rattle.pages.proofs.Marks.{Quiet, accessed-quiet, written-quiet, changed, look-quiet, changed-comm, accessed-written}
+use Rattle.pages.proofs.Marks.{accessed-quiet, look-quiet, changed-comm, accessed-written}
 use Rattle.machine.specs.Prog.{Prog, done, fail, look, get, put, Answer, finished, refused, keeps, after, interp}
 use Rattle.machine.specs.Store.{framed}
 
