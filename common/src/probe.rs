@@ -1,34 +1,52 @@
 //! Calls of the engine with lists of any length and numbers of any size, as the program `probe` reads them.
 //!
-//! A call in bytes, all numbers big-endian: kind (1 byte: 0 a step, 1 a run); length of memory (4 bytes), number of page words (2) and
-//! of registers (1); page words (2 each); registers (4 each); counter, code, mask and budget (4 each); number of pieces of memory (2);
-//! pieces: address (4), length (1), the bytes. What no piece names is zero.
+//! A call in bytes, all numbers big-endian: kind (1 byte: 0 a step, 1 a run, 2 a look-up); length of memory (4 bytes), number of page
+//! words (2) and of registers (1); page words (2 each); registers (4 each); counter, code, mask and budget (4 each); number of pieces of
+//! memory (2); pieces: address (4), length (1), the bytes. What no piece names is zero.
+//!
+//! A look-up has the very same form. Its counter is the address that is looked up, and its code what the byte is wanted for: 0 a fetch,
+//! 1 a load, 2 a store; with any other code the call is malformed. Mask and budget play no part. There is no number 6: a page for which
+//! the map has no word has word 0, memory ends where it ends, and an address of 2^24 or more is one of 2,097,152 or more.
 //!
 //! An outcome in text, numbers in decimal, fields parted by tabs: lines ANSWER number, place, count; STATE counter, code, mask; REGS
-//! all of them; MAP all page words; MEMORY its checksum.
+//! all of them; MAP all page words; MEMORY its checksum. A look-up's outcome is a single line: LOOK 0, real address, reach; or, refused,
+//! LOOK number (1, 3 or 4), the address that was looked up, 0.
+
+/// What a call asks for.
+#[derive(Clone, Copy, Debug, PartialEq, Eq)]
+pub enum Kind {
+    Step,
+    /// A run, with its budget.
+    Run(u32),
+    /// A look-up: the counter is the address, the code what the byte is wanted for.
+    LookUp,
+}
 
 /// A call to be written.
 pub struct Call<'a> {
+    pub kind: Kind,
     pub memory: &'a [u8],
     pub map: &'a [u16],
     pub registers: &'a [u32],
     pub counter: u32,
     pub code: u32,
     pub mask: u32,
-    /// The budget of a run; a step has none.
-    pub budget: Option<u32>,
 }
 
 impl Call<'_> {
     /// Appends the call in bytes.
     pub fn push(&self, all: &mut Vec<u8>) {
-        all.push(u8::from(self.budget.is_some()));
+        let (kind, budget) = match self.kind {
+            Kind::Step => (0, 0),
+            Kind::Run(budget) => (1, budget),
+            Kind::LookUp => (2, 0),
+        };
+        all.push(kind);
         all.extend((self.memory.len() as u32).to_be_bytes());
         all.extend((self.map.len() as u16).to_be_bytes());
         all.push(self.registers.len() as u8);
         all.extend(self.map.iter().flat_map(|word| word.to_be_bytes()));
         all.extend(self.registers.iter().flat_map(|word| word.to_be_bytes()));
-        let budget = self.budget.unwrap_or(0);
         for scalar in [self.counter, self.code, self.mask, budget] {
             all.extend(scalar.to_be_bytes());
         }

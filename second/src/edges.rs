@@ -2,8 +2,10 @@
 //! memory at each size, stores that are refused half way, divisions and other
 //! work on register pairs that is refused at its end, and instructions that are
 //! fetched and then refused, or would be if the door or the budget let them.
+//! Look-ups come last.
 
 use crate::draft::{rr, rs, rx, si, ss};
+use crate::look_ups;
 use crate::machine::{Machine, E, G, H, M, S, U, W};
 use crate::operations as op;
 use crate::probe::Case;
@@ -57,6 +59,7 @@ pub fn cases() -> Vec<Case> {
     }
     cases.push(Case::run(endless(), 65_535));
     cases.push(Case::run(endless(), 65_534));
+    cases.extend(look_ups::edges());
     cases
 }
 

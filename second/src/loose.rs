@@ -2,7 +2,9 @@
 //! now and then something wrong at the door: what a sheet cannot show.
 
 use crate::generate::Generator;
+use crate::look_ups;
 use crate::machine::{Machine, FRAME};
+use crate::probe::Case;
 use crate::{set_up, sheet};
 use common::dice::Dice;
 
@@ -40,6 +42,16 @@ impl Loose {
             spoil(&mut machine, &mut budget, &mut self.dice);
         }
         (machine, budget)
+    }
+
+    /// The next machine as a run and as a step; and a look-up in another.
+    pub fn cases(&mut self) -> [Case; 3] {
+        let (machine, budget) = self.make();
+        [
+            Case::run(machine.clone(), budget),
+            Case::step(machine),
+            look_ups::some(&mut self.dice),
+        ]
     }
 }
 

@@ -64,8 +64,10 @@ pub struct Refusal {
     pub place: u32,
 }
 
+/// What a byte is wanted for.
 #[derive(Clone, Copy, Debug, PartialEq, Eq)]
 pub enum Access {
+    Fetch,
     Load,
     Store,
 }
@@ -118,8 +120,8 @@ impl Machine {
     }
 
     /// Look up one byte: the real address, or the number of the refusal.
-    /// Expects a machine that would pass the door, and an address of any
-    /// size.
+    /// The address may have any size, and so may the lists: a page that the
+    /// map lacks has word 0, and memory ends where it ends.
     pub fn look_up(&self, address: u32, access: Access) -> Result<usize, Refusal> {
         let refuse = |number| {
             Err(Refusal {
@@ -131,7 +133,7 @@ impl Machine {
             return refuse(ADDRESSING);
         }
         let displacement = (address % 4_096) as usize;
-        let word = self.map[page_of(address)];
+        let word = self.map.get(page_of(address)).copied().unwrap_or(0);
         if word & U == 0 {
             return refuse(PAGING_QUEUE);
         }
@@ -293,7 +295,7 @@ impl Machine {
         let mut places: Vec<Vec<usize>> = Vec::with_capacity(2);
         for field in &fields {
             let mark = match field.access {
-                Access::Load => G,
+                Access::Fetch | Access::Load => G,
                 Access::Store => G | W,
             };
             let mut reals = Vec::with_capacity(field.length as usize);
@@ -313,7 +315,7 @@ impl Machine {
         let address = (self.counter + offset) & ADDRESS_BITS;
         // The address is even: both bytes lie in one page.
         for address in [address, address + 1] {
-            let real = self.look_up(address, Access::Load)?;
+            let real = self.look_up(address, Access::Fetch)?;
             text.push(self.memory[real]);
         }
         self.map[page_of(address)] |= G;
@@ -399,7 +401,8 @@ fn operand_fields(parts: &Parts) -> Vec<Field> {
     }
 }
 
-fn page_of(address: u32) -> usize {
+/// The page of an address: all of its number, no part of it.
+pub(crate) fn page_of(address: u32) -> usize {
     (address / 4_096) as usize
 }
 

@@ -2,43 +2,54 @@
 //! numbers of any size: what a sheet cannot show. `common::probe` has the form
 //! of a case and of an outcome.
 
-use crate::machine::{Machine, COMPLETED};
-use common::probe::{checksum, Call};
+use crate::machine::{Access, Machine, COMPLETED};
+use common::probe::{checksum, Call, Kind};
 
 /// One call of the machine.
 #[derive(Clone, Debug, PartialEq, Eq)]
 pub struct Case {
+    pub kind: Kind,
+    /// Of a look-up the counter is the address, and the code the access.
     pub machine: Machine,
-    /// The budget of a run; a step has none.
-    pub budget: Option<u32>,
 }
+
+/// What a byte can be wanted for, by the number that a look-up's code is.
+pub const ACCESSES: [Access; 3] = [Access::Fetch, Access::Load, Access::Store];
 
 impl Case {
     pub fn step(machine: Machine) -> Case {
-        Case {
-            machine,
-            budget: None,
-        }
+        let kind = Kind::Step;
+        Case { kind, machine }
     }
 
     pub fn run(machine: Machine, budget: u32) -> Case {
-        Case {
-            machine,
-            budget: Some(budget),
-        }
+        let kind = Kind::Run(budget);
+        Case { kind, machine }
+    }
+
+    /// A look-up in the machine's map and memory.
+    pub fn look_up(mut machine: Machine, address: u32, access: Access) -> Case {
+        machine.counter = address;
+        machine.code = match access {
+            Access::Fetch => 0,
+            Access::Load => 1,
+            Access::Store => 2,
+        };
+        let kind = Kind::LookUp;
+        Case { kind, machine }
     }
 
     /// Append the case in bytes.
     pub fn push(&self, all: &mut Vec<u8>) {
         let machine = &self.machine;
         let call = Call {
+            kind: self.kind,
             memory: &machine.memory,
             map: &machine.map,
             registers: &machine.registers,
             counter: machine.counter,
             code: machine.code,
             mask: machine.mask,
-            budget: self.budget,
         };
         call.push(all);
     }
@@ -69,22 +80,28 @@ impl Case {
                 .get_mut(address..address + length)?
                 .copy_from_slice(content);
         }
-        let budget = (kind == 1).then_some(budget);
-        Some((Case { machine, budget }, reader.left))
+        let kind = match kind {
+            0 => Kind::Step,
+            1 => Kind::Run(budget),
+            2 if machine.code < 3 => Kind::LookUp,
+            _ => return None,
+        };
+        Some((Case { kind, machine }, reader.left))
     }
 
     /// What the machine makes of it, in text.
     pub fn outcome(mut self) -> String {
-        let (number, place, count) = match self.budget {
-            Some(budget) => {
-                let run = self.machine.run(budget);
-                (run.number, run.place, run.count)
-            }
-            None => {
+        let (number, place, count) = match self.kind {
+            Kind::Step => {
                 let step = self.machine.step();
                 let count = u32::from(step.number == COMPLETED);
                 (step.number, step.place, count)
             }
+            Kind::Run(budget) => {
+                let run = self.machine.run(budget);
+                (run.number, run.place, run.count)
+            }
+            Kind::LookUp => return looked_up(&self.machine),
         };
         let machine = &self.machine;
         let mut text = line("ANSWER", [number, place, count]);
@@ -93,6 +110,15 @@ impl Case {
         text += &line("MAP", machine.map.iter().copied());
         text += &line("MEMORY", [checksum(&machine.memory)]);
         text
+    }
+}
+
+/// The one line of a look-up.
+fn looked_up(machine: &Machine) -> String {
+    let access = ACCESSES[machine.code as usize];
+    match machine.look_up_reach(machine.counter, access) {
+        Ok(found) => line("LOOK", [0, found.real as u32, found.reach]),
+        Err(refusal) => line("LOOK", [refusal.number, refusal.place, 0]),
     }
 }
 
@@ -139,9 +165,7 @@ mod tests {
         let mut loose = Loose::new(3);
         let mut cases = edges::cases();
         for _ in 0..300 {
-            let (machine, budget) = loose.make();
-            cases.push(Case::run(machine.clone(), budget));
-            cases.push(Case::step(machine));
+            cases.extend(loose.cases());
         }
         let mut all = Vec::new();
         for case in &cases {
@@ -154,5 +178,56 @@ mod tests {
             left = rest;
         }
         assert!(left.is_empty());
+    }
+
+    /// A call of this kind with this code, in bytes.
+    fn in_bytes(kind: u8, code: u32) -> Vec<u8> {
+        let mut machine = Machine::new(65_536);
+        machine.map[10] = 0x3003;
+        let mut bytes = Vec::new();
+        Case::look_up(machine, 0x00_A010, Access::Load).push(&mut bytes);
+        assert_eq!(bytes[0], 2);
+        bytes[0] = kind;
+        // After the lists and the counter.
+        let at = 1 + 4 + 2 + 1 + 512 * 2 + 16 * 4 + 4;
+        assert_eq!(bytes[at..at + 4], [0, 0, 0, 1]);
+        bytes[at..at + 4].copy_from_slice(&code.to_be_bytes());
+        bytes
+    }
+
+    #[test]
+    fn a_look_up_has_three_codes_and_a_call_three_kinds() {
+        for code in 0..3 {
+            let bytes = in_bytes(2, code);
+            let (case, left) = Case::split(&bytes).expect("a look-up");
+            assert!(left.is_empty());
+            assert_eq!(case.kind, Kind::LookUp);
+            assert_eq!(case.outcome(), "LOOK\t0\t12304\t4080\n");
+        }
+        for code in [3, 4, 256, u32::MAX] {
+            assert_eq!(Case::split(&in_bytes(2, code)), None);
+            // A step with such a code is a call; the door refuses it.
+            let bytes = in_bytes(0, code);
+            let (case, _) = Case::split(&bytes).expect("a step");
+            assert_eq!(case.kind, Kind::Step);
+        }
+        for kind in [3, 4, 255] {
+            assert_eq!(Case::split(&in_bytes(kind, 1)), None);
+        }
+    }
+
+    #[test]
+    fn a_refused_look_up_says_so_in_one_line() {
+        let mut machine = Machine::new(65_536);
+        machine.map[10] = 0x3803;
+        for (address, access, text) in [
+            (0x00_A000, Access::Store, "LOOK\t4\t40960\t0\n"),
+            (0x00_B001, Access::Load, "LOOK\t3\t45057\t0\n"),
+            (0x20_0000, Access::Fetch, "LOOK\t1\t2097152\t0\n"),
+            (u32::MAX, Access::Fetch, "LOOK\t1\t4294967295\t0\n"),
+        ] {
+            let case = Case::look_up(machine.clone(), address, access);
+            assert_eq!(case.outcome(), text);
+        }
     }
 }

@@ -3,8 +3,9 @@
 use std::fs;
 use std::path::Path;
 
-const OWN: [&str; 9] = [
+const OWN: [&str; 10] = [
     "machine",
+    "reach",
     "actions",
     "pairs",
     "results",

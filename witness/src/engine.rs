@@ -3,7 +3,7 @@
 
 use crate::case::{Case, WINDOW, ZONE_AT};
 use common::bounded;
-use common::probe::Call;
+use common::probe::{Call, Kind};
 use std::fs;
 use std::path::Path;
 use std::time::Duration;
@@ -69,13 +69,13 @@ fn push_case(out: &mut Vec<u8>, case: &Case) {
         map[page as usize] = OPEN | frame as u16;
     }
     let call = Call {
+        kind: Kind::Step,
         memory: &memory(case, &case.window, &case.zone),
         map: &map,
         registers: &case.regs,
         counter: case.counter,
         code: case.code.into(),
         mask: case.mask.into(),
-        budget: None,
     };
     call.push(out);
 }

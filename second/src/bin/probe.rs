@@ -37,11 +37,11 @@ fn main() -> ExitCode {
     }
 }
 
-/// The edges, then each generated machine as a run and as a step.
+/// The edges, then each generated machine as a run and as a step, and a
+/// look-up after it.
 fn make(seed: u64, count: usize) -> Vec<u8> {
     let mut loose = Loose::new(seed);
-    let generated = std::iter::from_fn(|| Some(loose.make()))
-        .flat_map(|(machine, budget)| [Case::run(machine.clone(), budget), Case::step(machine)]);
+    let generated = std::iter::from_fn(|| Some(loose.cases())).flatten();
     let mut out = Vec::new();
     for case in edges::cases().into_iter().chain(generated).take(count) {
         case.push(&mut out);
