@@ -6,6 +6,8 @@ mod fields;
 mod marks;
 mod pages;
 mod pair_refusals;
+mod reach;
+mod reach_fields;
 mod runs;
 mod signed_shifts;
 mod values;
@@ -26,7 +28,7 @@ const fn sweep(name: &'static str, cases: u32, make: fn(u32, &mut Dice) -> Draft
     Sweep { name, cases, make }
 }
 
-pub const SWEEPS: [Sweep; 43] = [
+pub const SWEEPS: [Sweep; 50] = [
     sweep("register-values", 14 * 64, values::register_values),
     sweep("word-values", 10 * 64, values::word_values),
     sweep("halfword-loads", 24, values::halfword_loads),
@@ -90,6 +92,21 @@ pub const SWEEPS: [Sweep; 43] = [
         marks::OPERAND_CASES,
         marks::at_the_operands,
     ),
+    sweep("reach-code", reach::CODE_CASES, reach::code),
+    sweep("reach-operands", reach::OPERAND_CASES, reach::operands),
+    sweep("reach-multiples", reach::MULTIPLE_CASES, reach::multiples),
+    sweep("reach-moves", reach_fields::MOVE_CASES, reach_fields::moves),
+    sweep(
+        "reach-overlaps",
+        reach_fields::OVERLAP_CASES,
+        reach_fields::overlaps,
+    ),
+    sweep(
+        "reach-refusals",
+        reach_fields::REFUSAL_CASES,
+        reach_fields::refusals,
+    ),
+    sweep("reach-ends", reach_fields::END_CASES, reach_fields::ends),
 ];
 
 const REGISTER_OPS: [u8; 14] = [

@@ -9,7 +9,7 @@ use second::sheet;
 use second::sweeps::SWEEPS;
 
 /// How many sheets of a seed the two programs are given.
-const SHEETS: u64 = 25_000;
+const SHEETS: u64 = 30_000;
 
 #[test]
 fn the_sheets_of_a_seed_reach_everything() {
