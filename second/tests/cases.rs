@@ -43,7 +43,7 @@ fn every_case_gives_its_answer() {
         }
     }
     names.sort();
-    assert!(names.len() >= 171, "only {} cases", names.len());
+    assert!(names.len() >= 201, "only {} cases", names.len());
     for name in NAMED {
         assert!(names.iter().any(|other| other == name), "{name} is missing");
     }
