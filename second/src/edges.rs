@@ -284,6 +284,7 @@ fn endless() -> Machine {
 #[cfg(test)]
 mod tests {
     use super::*;
+    use common::probe::Kind;
 
     #[test]
     fn what_is_fetched_is_refused_in_every_way() {
@@ -298,5 +299,15 @@ mod tests {
         for number in [0, 1, 2, 3, 4, 5, 8] {
             assert!(numbers[number] >= 4, "{number}: {}", numbers[number]);
         }
+    }
+
+    #[test]
+    fn the_edges_have_all_kinds_and_leave_room_for_generated_calls() {
+        let cases = cases();
+        let look_ups = cases.iter().filter(|case| case.kind == Kind::LookUp);
+        assert_eq!(look_ups.count(), look_ups::edges().len());
+        assert!(look_ups::edges().len() >= 1_000);
+        // The gate asks for 7,500 in all.
+        assert!(cases.len() <= 6_500, "{} edges", cases.len());
     }
 }

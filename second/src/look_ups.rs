@@ -285,6 +285,8 @@ fn some_word(dice: &mut Dice, last: u16) -> u16 {
         0 => word & !U,
         1 => word & !S,
         2 => word | (dice.roll() as u16 & XXX),
+        // Several things at once, perhaps.
+        3 => dice.roll() as u16 & !FRAME | frame,
         _ => word,
     }
 }
