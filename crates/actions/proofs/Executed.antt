@@ -87,29 +87,29 @@ module _ (regs : List ℕ) (c : Now) (mem map : List ℕ) where
           ∙ one-stop acc op a m k mem map (framedOf mem map) d b (sym e ∙ ef) l)
 
       -- found, what comes after the look-ups decides
-      pub operand-comes : (r : ℕ) (map′ : List ℕ) (x : Answer Cpu Framed) → found ≡ At r → map′ ≡ noteField map a m
+      pub operand-comes : (r y : ℕ) (map′ : List ℕ) (x : Answer Cpu Framed) → found ≡ At r y → map′ ≡ noteField map a m
           → interp framed k (framedOf mem map) (framedOf mem map′) ≡ x
           → interp framed (aligned w a (looks acc a m k)) (framedOf mem map) (framedOf mem map) ≡ x
-      operand-comes r map′ x ef em ek =
+      operand-comes r y map′ x ef em ek =
           ap (λ (p : Prog Cpu). interp framed p (framedOf mem map) (framedOf mem map)) (on-boundary w a (looks acc a m k) h)
-          ∙ one-go acc op a m k mem map (framedOf mem map) r (sym e ∙ ef)
+          ∙ one-go acc op a m k mem map (framedOf mem map) r y (sym e ∙ ef)
           ∙ ap (λ (y : List ℕ). interp framed k (framedOf mem map) (framedOf mem y)) (sym em)
           ∙ ek
 
-      pub operand-go : (r : ℕ) (map′ regs′ : List ℕ) (t : Framed) (next : Now) → found ≡ At r → map′ ≡ noteField map a m
+      pub operand-go : (r y : ℕ) (map′ regs′ : List ℕ) (t : Framed) (next : Now) → found ≡ At r y → map′ ≡ noteField map a m
           → interp framed k (framedOf mem map) (framedOf mem map′) ≡ finished (cpuOf regs′ next) t
           → told (Done next) regs′ c t
           ≡ one (cpuOf regs c) (interp framed (aligned w a (looks acc a m k)) (framedOf mem map) (framedOf mem map))
-      operand-go r map′ regs′ t next ef em ek =
-          ends regs regs′ c next (aligned w a (looks acc a m k)) (framedOf mem map) t (operand-comes r map′ _ ef em ek)
+      operand-go r y map′ regs′ t next ef em ek =
+          ends regs regs′ c next (aligned w a (looks acc a m k)) (framedOf mem map) t (operand-comes r y map′ _ ef em ek)
 
       -- refused after all, by what comes after the look-ups: the operand's mark is not kept
-      pub operand-refused : (r : ℕ) (map′ : List ℕ) (n b : ℕ) → found ≡ At r → map′ ≡ noteField map a m
+      pub operand-refused : (r y : ℕ) (map′ : List ℕ) (n b : ℕ) → found ≡ At r y → map′ ≡ noteField map a m
           → interp framed k (framedOf mem map) (framedOf mem map′) ≡ refused n b (framedOf mem map)
           → told (Stop n b) regs c (framedOf mem map)
           ≡ one (cpuOf regs c) (interp framed (aligned w a (looks acc a m k)) (framedOf mem map) (framedOf mem map))
-      operand-refused r map′ n b ef em ek =
-          stops regs c n b (aligned w a (looks acc a m k)) (framedOf mem map) (operand-comes r map′ _ ef em ek)
+      operand-refused r y map′ n b ef em ek =
+          stops regs c n b (aligned w a (looks acc a m k)) (framedOf mem map) (operand-comes r y map′ _ ef em ek)
 
   -- one byte
   module _ (acc : Access) (op : ForOperand acc) (a : ℕ) (k : Prog Cpu) (found : Look) (e : found ≡ lookOf map (length mem) acc a) where
@@ -119,12 +119,12 @@ module _ (regs : List ℕ) (c : Now) (mem map : List ℕ) where
         hands-on regs c (look acc a k) (framedOf mem map) found out d b eo ef
         (byte-stop acc op a k mem map (framedOf mem map) d b (sym e ∙ ef))
 
-    pub byte-yes : (r : ℕ) (map′ : List ℕ) (t : Framed) (next : Now) → found ≡ At r → map′ ≡ accessedAt map a
+    pub byte-yes : (r y : ℕ) (map′ : List ℕ) (t : Framed) (next : Now) → found ≡ At r y → map′ ≡ accessedAt map a
         → interp framed k (framedOf mem map) (framedOf mem map′) ≡ finished (cpuOf regs next) t
         → told (Done next) regs c t ≡ one (cpuOf regs c) (interp framed (look acc a k) (framedOf mem map) (framedOf mem map))
-    byte-yes r map′ t next ef em ek =
+    byte-yes r y map′ t next ef em ek =
         ends regs regs c next (look acc a k) (framedOf mem map) t
-        (byte-go acc op a k mem map (framedOf mem map) r (sym e ∙ ef)
+        (byte-go acc op a k mem map (framedOf mem map) r y (sym e ∙ ef)
         ∙ ap (λ (m : List ℕ). interp framed k (framedOf mem map) (framedOf mem m)) (sym em)
         ∙ ek)
 
@@ -137,12 +137,12 @@ module _ (regs : List ℕ) (c : Now) (mem map : List ℕ) where
         hands-on regs c (looks (f .access) (f .at) (f .len) (looks (g .access) (g .at) (g .len) k)) (framedOf mem map) found out d b eo ef
         (two-is f g op op′ k mem map (framedOf mem map) h found e ∙ rw ef)
 
-    pub two-yes : (r : ℕ) (map′ map″ : List ℕ) (t : Framed) (next : Now) → found ≡ At r
+    pub two-yes : (r y : ℕ) (map′ map″ : List ℕ) (t : Framed) (next : Now) → found ≡ At r y
         → map′ ≡ noteField map (f .at) (f .len) → map″ ≡ noteField map′ (g .at) (g .len)
         → interp framed k (framedOf mem map) (framedOf mem map″) ≡ finished (cpuOf regs next) t
         → told (Done next) regs c t
         ≡ one (cpuOf regs c) (interp framed (looks (f .access) (f .at) (f .len) (looks (g .access) (g .at) (g .len) k)) (framedOf mem map) (framedOf mem map))
-    two-yes r map′ map″ t next ef em en ek =
+    two-yes r y map′ map″ t next ef em en ek =
         ends regs regs c next (looks (f .access) (f .at) (f .len) (looks (g .access) (g .at) (g .len) k)) (framedOf mem map) t
         (two-is f g op op′ k mem map (framedOf mem map) h found e
         ∙ rw ef

@@ -30,7 +30,7 @@ doing p regs c s = one (cpuOf regs c) (interp framed (p (cpuOf regs c)) s s)
 -- a look-up's refusal, handed on (asked of a refusal only)
 abbrev pub refusalOf : Look → Out
 refusalOf (Refused c a) = Stop (numberOf c) a
-refusalOf (At r) = Stop 0 0
+refusalOf (At r k) = Stop 0 0
 
 -- the answer of an executor that touches no storage is this program's; regs′ are the registers at exit, and a refusal leaves them
 unfoldable pub answersTo : Out → List ℕ → List ℕ → Prog Cpu → Type 0

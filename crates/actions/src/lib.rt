@@ -41,6 +41,6 @@ pub fn refusal(look: Look) -> Out
 {
     match look {
         Look::Refused(cause, at) => Out::Stop(number_of(cause), at),
-        Look::At(_) => Out::Stop(0, 0),
+        Look::At(_, _) => Out::Stop(0, 0),
     }
 }

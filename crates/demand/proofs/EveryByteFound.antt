@@ -15,7 +15,7 @@ use Rattle.pages.specs.declared.Look.{Look}
 use Rattle.pages.specs.declared.Look.the-variants.{At, Refused}
 use Rattle.pages.specs.Word.{bitU, bitS, bitE, bitM, bitsX, dispOf, pageOf, real, wordOf, written}
 use Rattle.pages.specs.Tests.{Verdict, fine, bad, tests, sixTests}
-use Rattle.pages.specs.Look.{lookOf, testSeven, verdictOf}
+use Rattle.pages.specs.Look.{reach, lookOf, testSeven, verdictOf}
 use Rattle.pages.specs.Framed.{Framed, lookIn, noted, readByte, writtenAt, writeAt, writeByte}
 use Rattle.pages.proofs.Marks.{look-quiet, written-quiet}
 use Rattle.machine.specs.Prog.{Prog, done, fail, look, get, put, Ops, keeps, after, interp}
@@ -56,16 +56,16 @@ tests-load a w =
     (skip _ _ _ (both (eqb (bitM w) 1) (leb 2048 (dispOf a)))
     (skip _ _ _ (eqb (bitS w) 0) (λ h. last (eqb (bitE w) 1))))))
 
-within-fine : (v v′ : Verdict) (r n a : ℕ) → (v ≡ fine → v′ ≡ fine) → verdictOf (testSeven v r n a) ≡ fine → verdictOf (testSeven v′ r n a) ≡ fine
-within-fine fine v′ r n a f h = rw (f refl) h
-within-fine (bad c) v′ r n a f h = rw (f h) (absurd (let z : _≡_ {A = ℕ} 0 1 = cc in omega arith))
+within-fine : (v v′ : Verdict) (r k n a : ℕ) → (v ≡ fine → v′ ≡ fine) → verdictOf (testSeven v r k n a) ≡ fine → verdictOf (testSeven v′ r k n a) ≡ fine
+within-fine fine v′ r k n a f h = rw (f refl) h
+within-fine (bad c) v′ r k n a f h = rw (f h) (absurd (let z : _≡_ {A = ℕ} 0 1 = cc in omega arith))
 
 finds-load : (s : Framed) (acc : Access) (a : ℕ) → Finds s acc a → Finds s Load a
 unfolding lookOf tests sixTests
 finds-load s Fetch a h = h
 finds-load s Load a h = h
 finds-load s Store a h =
-    within-fine _ _ (real (wordOf (s .map) (pageOf a)) (dispOf a)) (length (s .mem)) a
+    within-fine _ _ (real (wordOf (s .map) (pageOf a)) (dispOf a)) (reach (wordOf (s .map) (pageOf a)) (dispOf a) (length (s .mem))) (length (s .mem)) a
     (tests-load a (wordOf (s .map) (pageOf a)))
     h
 
@@ -75,7 +75,7 @@ unfolding writeByte writtenAt
 wrote-look s a v acc b = go (lookIn s Store a)
   where
     go : (l : Look) → lookIn (writeAt s a v l) acc b ≡ lookIn s acc b
-    go (At r) =
+    go (At r k) =
         ap (λ (n : ℕ). lookOf (writtenAt (s .map) a) n acc b) (length-set (s .mem) r v)
         ∙ look-quiet written written-quiet (s .map) (pageOf a) (length (s .mem)) acc b
     go (Refused c p) = refl

@@ -16,7 +16,7 @@ use Rattle.pages.specs.declared.Look.{Look}
 use Rattle.pages.specs.declared.Look.the-variants.{At, Refused}
 use Rattle.pages.specs.Word.{bitsX, size, real, pageOf, dispOf, wordOf, Open, accessed, written}
 use Rattle.pages.specs.Tests.{Verdict, fine, bad, tests}
-use Rattle.pages.specs.Look.{lookOf, testSeven, verdictOf}
+use Rattle.pages.specs.Look.{reach, lookOf, testSeven, verdictOf}
 use Rattle.pages.specs.Framed.{Framed, framedOf, lookIn, noted, accessedAt, writtenAt, readAt, readByte, writeAt, writeByte}
 use Rattle.pages.proofs.Marks.{changed, changed-keeps}
 use Rattle.machine.specs.Store.{framed}
@@ -155,13 +155,13 @@ stored-same p d v s q h o l =
         (λ same also. k (ap (λ (i : ℕ). real (wordOf ws i) e) same ∙ ap (real (wordOf ws p)) also)))
 
 -- under the premise test 7 never fails, so that a look-up is tests 1 to 6 alone
-abbrev placed : Verdict → ℕ → ℕ → Look
-placed fine r a = At r
-placed (bad c) r a = Refused c a
+abbrev placed : Verdict → ℕ → ℕ → ℕ → Look
+placed fine r k a = At r k
+placed (bad c) r k a = Refused c a
 
-within-placed : (v : Verdict) (r n a : ℕ) → (v ≡ fine → r < n) → testSeven v r n a ≡ placed v r a
-within-placed fine r n a h = rw (lt-ltb r n (h refl))
-within-placed (bad c) r n a h = refl
+within-placed : (v : Verdict) (r k n a : ℕ) → (v ≡ fine → r < n) → testSeven v r k n a ≡ placed v r k a
+within-placed fine r k n a h = rw (lt-ltb r n (h refl))
+within-placed (bad c) r k n a h = refl
 
 module _ (s : Framed) (q : Plain) (h : Same s q) (a : ℕ) where
   abbrev word : ℕ
@@ -170,10 +170,13 @@ module _ (s : Framed) (q : Plain) (h : Same s q) (a : ℕ) where
   abbrev place : ℕ
   place = real (wordOf (s .map) (pageOf a)) (dispOf a)
 
-  look-placed : (acc : Access) → lookIn s acc a ≡ placed (tests acc a word) place a
+  abbrev far : ℕ
+  far = reach (wordOf (s .map) (pageOf a)) (dispOf a) (length (s .mem))
+
+  look-placed : (acc : Access) → lookIn s acc a ≡ placed (tests acc a word) place far a
   unfolding lookOf
   look-placed acc =
-      within-placed (tests acc a word) place (length (s .mem)) a
+      within-placed (tests acc a word) place far (length (s .mem)) a
       (λ e. within-page s (pageOf a) (dispOf a) (h .premise) (passed acc a word e .open-page) (passed acc a word e .near))
 
   look-plain : (acc : Access) → lookPlain q acc a ≡ tests acc a word
@@ -186,7 +189,7 @@ module _ (s : Framed) (q : Plain) (h : Same s q) (a : ℕ) where
   looked-tie : (acc : Access) → verdictOf (lookIn s acc a) ≡ lookPlain q acc a
   looked-tie acc = ap verdictOf (look-placed acc) ∙ verdict (tests acc a word) ∙ sym (look-plain acc)
     where
-      verdict : (v : Verdict) → verdictOf (placed v place a) ≡ v
+      verdict : (v : Verdict) → verdictOf (placed v place far a) ≡ v
       verdict fine = refl
       verdict (bad c) = refl
 
@@ -201,7 +204,7 @@ module _ (s : Framed) (q : Plain) (h : Same s q) (a : ℕ) where
       ∙ byte (tests Load a word) refl
       ∙ ap (λ (v : Verdict). readIf v (q .pages (pageOf a) (dispOf a))) (sym (look-plain Load))
     where
-      byte : (v : Verdict) → tests Load a word ≡ v → readAt (s .mem) (placed v place a) ≡ readIf v (q .pages (pageOf a) (dispOf a))
+      byte : (v : Verdict) → tests Load a word ≡ v → readAt (s .mem) (placed v place far a) ≡ readIf v (q .pages (pageOf a) (dispOf a))
       byte fine e =
           h .pages .bytes (pageOf a) (dispOf a) (passed Load a word e .open-page) (passed Load a word e .near)
       byte (bad c) e = refl
@@ -214,7 +217,7 @@ module _ (s : Framed) (q : Plain) (h : Same s q) (a : ℕ) where
       after : Plain
       after = plainOf (writtenAt (q .bits) a) (stored (q .pages) (pageOf a) (dispOf a) v)
 
-      both-wrote : (t : Verdict) → tests Store a word ≡ t → Same (writeAt s a v (placed t place a)) (writeIf t q after)
+      both-wrote : (t : Verdict) → tests Store a word ≡ t → Same (writeAt s a v (placed t place far a)) (writeIf t q after)
       both-wrote fine e =
           unfold writtenAt in
           marked-same written written-twin bare-written (pageOf a)

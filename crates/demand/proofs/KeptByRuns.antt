@@ -14,7 +14,7 @@ use Rattle.pages.specs.declared.Look.the-variants.{At, Refused}
 use Rattle.words.specs.Pick.{pick}
 use Rattle.pages.specs.Word.{real, pageOf, dispOf, wordOf, Writable, accessed, written}
 use Rattle.pages.specs.Tests.{Verdict, fine, bad, tests}
-use Rattle.pages.specs.Look.{lookOf, testSeven}
+use Rattle.pages.specs.Look.{reach, lookOf, testSeven}
 use Rattle.pages.specs.Framed.{Framed, framedOf, noted, accessedAt, writtenAt, writeAt, writeByte}
 use Rattle.machine.specs.Prog.{Prog, Ops, interp}
 use Rattle.machine.specs.Run.{one, run}
@@ -66,11 +66,14 @@ writes-keep I s a v h f = by-verdict (tests Store a word) refl
     at : ℕ
     at = real (wordOf (s .map) (pageOf a)) (dispOf a)
 
-    by-seventh : (b : Bool) → tests Store a word ≡ fine → I (writeAt s a v (pick b (At at) (Refused Addressing a)))
+    far : ℕ
+    far = reach (wordOf (s .map) (pageOf a)) (dispOf a) (length (s .mem))
+
+    by-seventh : (b : Bool) → tests Store a word ≡ fine → I (writeAt s a v (pick b (At at far) (Refused Addressing a)))
     by-seventh true e = f e
     by-seventh false e = h
 
-    by-verdict : (t : Verdict) → tests Store a word ≡ t → I (writeAt s a v (testSeven t at (length (s .mem)) a))
+    by-verdict : (t : Verdict) → tests Store a word ≡ t → I (writeAt s a v (testSeven t at far (length (s .mem)) a))
     by-verdict fine e = by-seventh (ltb at (length (s .mem))) e
     by-verdict (bad c) e = h
 

@@ -51,16 +51,16 @@ up-to-blind s b (a ∷ bs) = rw (blind s b Fetch a, blind s b Fetch (next a), up
 -- a halfword on its boundary, and what follows it
 module _ (s : Framed) (a : ℕ) (even : a % 2 ≡ 0) (size : length (s .mem) % 2 ≡ 0) (k : ℕ → Prog Cpu) (bs : List ℕ) where
   -- fetched, it has marked its one page
-  went-on : (r : ℕ) → lookIn s Fetch a ≡ At r
+  went-on : (r j : ℕ) → lookIn s Fetch a ≡ At r j
       → interp framed (halfword a k) s s ≡ interp framed (k (halfwordAt s a)) (noted s a) (noted s a)
-  went-on r e =
+  went-on r j e =
       half-fetched framed a k s (ap verdictOf e)
-      (ap verdictOf (blind s a Fetch (next a) ∙ second-found s a even size r e))
+      (ap verdictOf (blind s a Fetch (next a) ∙ second-found s a even size r j e))
       ∙ ap (λ (h : ℕ). interp framed (k h) (noted (noted s a) (next a)) (noted (noted s a) (next a))) value
       ∙ ap (λ (t : Framed). interp framed (k (halfwordAt s a)) t t) one-mark
     where
       one-mark : noted (noted s a) (next a) ≡ noted s a
-      one-mark = ap (framedOf (s .mem)) (accessed-again (s .map) a (next a) (found-page s a even size r e))
+      one-mark = ap (framedOf (s .mem)) (accessed-again (s .map) a (next a) (found-page s a even size r j e))
 
       byte : (b : ℕ) → readByte (noted (noted s a) (next a)) b ≡ readByte s b
       byte b = read-noted (noted s a) (next a) b ∙ read-noted s a b
@@ -76,7 +76,7 @@ module _ (s : Framed) (a : ℕ) (even : a % 2 ≡ 0) (size : length (s .mem) % 2
       go : (l : Look) → lookIn s Fetch a ≡ l
           → Came Sound (marked s (pick (both (isFound l) (isFound (lookIn s Fetch (next a)))) (a ∷ upToRefused s bs) [])) (interp framed (halfword a k) s s)
       go (Refused c p) e = rw (half-refused framed a k s c (ap verdictOf e)) (caused c, refl)
-      go (At r) e = rw (second-found s a even size r e, went-on r e, ← up-to-blind s a bs) h
+      go (At r j) e = rw (second-found s a even size r j e, went-on r j e, ← up-to-blind s a bs) h
 
 -- the halfwords after the first
 abbrev further : Found → Cpu → List ℕ

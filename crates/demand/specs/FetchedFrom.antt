@@ -20,7 +20,7 @@ use Rattle.machine.specs.Machine.{Given, given, cpuIn, storeIn}
 
 -- the halfword at a can be fetched: the look-up finds both its bytes
 abbrev pub isFound : Look → Bool
-isFound (At r) = true
+isFound (At r k) = true
 isFound (Refused c a) = false
 
 abbrev pub fetchable : Framed → ℕ → Bool

@@ -1,6 +1,6 @@
 mod Halfwords
 mod Texts
-mod CompactText
+mod ReachedText
 mod Lengths
 mod Runs
 mod Entries

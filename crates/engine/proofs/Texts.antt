@@ -121,7 +121,7 @@ module _ (mem map : List ℕ) (pc : ℕ) (first : Look) (map1 : List ℕ) (e1 : 
       → fetched r (framedOf mem map1) ≡ fetching pc (framedOf mem map)
   stop-first d b r f k = stopped mem map1 first d b r _ f k (from-first ∙ rw f)
 
-  module _ (x : ℕ) (f1 : first ≡ At x) (h1 n : ℕ) (eh : h1 ≡ readField (framedOf mem map1) pc 2 0) (en : n ≡ halvesOf h1)
+  module _ (x i : ℕ) (f1 : first ≡ At x i) (h1 n : ℕ) (eh : h1 ≡ readField (framedOf mem map1) pc 2 0) (en : n ≡ halvesOf h1)
       (on : ℕ) (eo : on ≡ past pc 2) (second : Look) (map2 : List ℕ)
       (e2 : second ≡ lookWanted (ltb 1 n) map1 (length mem) on) (m2 : map2 ≡ wantedMarks (ltb 1 n) map1 (length mem) on) where
     from-second : fetching pc (framedOf mem map) ≡ fromThere second on (thirdText n (past pc 4) h1) (framedOf mem map2)
@@ -133,7 +133,7 @@ module _ (mem map : List ℕ) (pc : ℕ) (first : Look) (map1 : List ℕ) (e1 : 
         → fetched r (framedOf mem map2) ≡ fetching pc (framedOf mem map)
     stop-second d b r f k = stopped mem map2 second d b r _ f k (from-second ∙ rw f)
 
-    module _ (y : ℕ) (f2 : second ≡ At y) (h2 : ℕ) (eh2 : h2 ≡ readField (framedOf mem map2) on 2 0)
+    module _ (y j : ℕ) (f2 : second ≡ At y j) (h2 : ℕ) (eh2 : h2 ≡ readField (framedOf mem map2) on 2 0)
         (last : ℕ) (el : last ≡ past pc 4) (third : Look) (map3 : List ℕ)
         (e3 : third ≡ lookWanted (ltb 2 n) map2 (length mem) last) (m3 : map3 ≡ wantedMarks (ltb 2 n) map2 (length mem) last) where
       from-third : fetching pc (framedOf mem map) ≡ fromThere third last (λ h3. done (T.Whole h1 h2 h3)) (framedOf mem map3)
@@ -145,7 +145,7 @@ module _ (mem map : List ℕ) (pc : ℕ) (first : Look) (map1 : List ℕ) (e1 : 
           → fetched r (framedOf mem map3) ≡ fetching pc (framedOf mem map)
       stop-third d b r f k = stopped mem map3 third d b r _ f k (from-third ∙ rw f)
 
-      pub whole-text : (z h3 : ℕ) → third ≡ At z → h3 ≡ readField (framedOf mem map3) last 2 0
+      pub whole-text : (z k h3 : ℕ) → third ≡ At z k → h3 ≡ readField (framedOf mem map3) last 2 0
           → fetched (T.Whole h1 h2 h3) (framedOf mem map3) ≡ fetching pc (framedOf mem map)
       unfolding interp
-      whole-text z h3 f eh3 = sym (from-third ∙ rw (f, ← eh3))
+      whole-text z k h3 f eh3 = sym (from-third ∙ rw (f, ← eh3))

@@ -13,13 +13,13 @@ use Rattle.words.specs.Pick.{both}
 use Rattle.pages.specs.declared.Access.the-variants.{Fetch, Store}
 use Rattle.pages.specs.declared.Look.{Look}
 use Rattle.pages.specs.declared.Look.the-variants.{At, Refused}
-use Rattle.pages.specs.Word.{bitG, base, real, wordOf, pageOf, dispOf, accessed, written}
+use Rattle.pages.specs.Word.{bitG, wordOf, pageOf, accessed, written}
 use Rattle.pages.specs.Tests.{Verdict, fine, bad}
-use Rattle.pages.specs.Look.{verdictOf}
+use Rattle.pages.specs.Look.{lookOf, lookWith, verdictOf}
 use Rattle.pages.specs.Framed.{Framed, framedOf, accessedAt, writtenAt, lookIn, noted, readByte, writeByte, writeAt}
-use Rattle.pages.specs.Compact.{ordinary, compact, realOf}
 use Rattle.words.proofs.Tests.{left-of, right-of}
-use Rattle.pages.proofs.Marks.{changed, accessed-quiet, written-quiet, base-quiet, accessed-old}
+use Rattle.pages.proofs.ReachLaws.{reach-behind, reach-inside, reach-page}
+use Rattle.pages.proofs.Marks.{changed, accessed-quiet, written-quiet, word-quiet, accessed-old}
 use Rattle.machine.specs.Prog.{Prog, done, fail, look, get, put, finished, keeps, after, interp}
 use Rattle.machine.specs.Store.{framed}
 use Rattle.machine.specs.Step.{step}
@@ -55,7 +55,7 @@ module _ (P : ℕ → Type 0) (pa : (w : ℕ) → P w → P (accessed w)) (pw : 
   wrote-has s a v h = go (lookIn s Store a)
     where
       go : (l : Look) → P (wordOf (writeAt s a v l .map) q)
-      go (At r) = changed-has written pw (s .map) (pageOf a) h
+      go (At r k) = changed-has written pw (s .map) (pageOf a) h
       go (Refused c b) = h
 
   pub kept-by : {R : Type 0} (p : Prog R) (kept s : Framed) (r : R) (t : Framed) → interp framed p kept s ≡ finished r t
@@ -74,20 +74,6 @@ module _ (P : ℕ → Type 0) (pa : (w : ℕ) → P w → P (accessed w)) (pw : 
   kept-by (put a v p) kept s r t e h = kept-by p kept (writeByte s a v) r t e (wrote-has s a v h)
 
 -- a page in a window stays in it
-ordinary-accessed : (w : ℕ) → ordinary (accessed w) Fetch ≡ ordinary w Fetch
-unfolding ordinary
-ordinary-accessed w =
-    let x : accessed w / 4096 % 4 ≡ w / 4096 % 4 = unfold accessed in omega arith in
-    let y : accessed w / 64 % 32 ≡ w / 64 % 32 = unfold accessed in omega arith in
-    rw (x, y, accessed-quiet .e w)
-
-ordinary-written : (w : ℕ) → ordinary (written w) Fetch ≡ ordinary w Fetch
-unfolding ordinary
-ordinary-written w =
-    let x : written w / 4096 % 4 ≡ w / 4096 % 4 = unfold written in omega arith in
-    let y : written w / 64 % 32 ≡ w / 64 % 32 = unfold written in omega arith in
-    rw (x, y, written-quiet .e w)
-
 accessed-seen : (w : ℕ) → bitG (accessed w) ≡ 1
 unfolding accessed bitG
 accessed-seen w = omega arith
@@ -96,43 +82,36 @@ written-seen : (w : ℕ) → bitG (written w) ≡ bitG w
 unfolding written bitG
 written-seen w = omega arith
 
-held-accessed : (b size w : ℕ) → Held b w size → Held b (accessed w) size
-held-accessed b size w h =
-    record { fair = ordinary-accessed w ∙ h .fair; seen = accessed-seen w; there = h .there ∙ sym (base-quiet accessed accessed-quiet w); room = h .room; small = h .small }
+held-accessed : (first len b size w : ℕ) → Held first len b w size → Held first len b (accessed w) size
+held-accessed first len b size w h =
+    record { far = h .far; found = word-quiet accessed accessed-quiet size Fetch first w ∙ h .found; room = h .room; seen = accessed-seen w }
 
-held-written : (b size w : ℕ) → Held b w size → Held b (written w) size
-held-written b size w h =
-    record { fair = ordinary-written w ∙ h .fair; seen = written-seen w ∙ h .seen; there = h .there ∙ sym (base-quiet written written-quiet w); room = h .room; small = h .small }
+held-written : (first len b size w : ℕ) → Held first len b w size → Held first len b (written w) size
+held-written first len b size w h =
+    record { far = h .far; found = word-quiet written written-quiet size Fetch first w ∙ h .found; room = h .room; seen = written-seen w ∙ h .seen }
 
 -- a page that has its mark
-seen-marked : (map : List ℕ) (pc page : ℕ) → pc / 4096 ≡ page → bitG (wordOf map page) ≡ 1 → map ≡ accessedAt map pc
+seen-marked : (map : List ℕ) (pc page : ℕ) → pageOf pc ≡ page → bitG (wordOf map page) ≡ 1 → map ≡ accessedAt map pc
 unfolding accessedAt wordOf bitG pageOf
 seen-marked map pc page e g =
     let k : getD map (pc / 4096) 0 / 16384 % 2 ≡ 1 = ap (λ (x : ℕ). getD map x 0 / 16384 % 2) e ∙ g in
     accessed-old map (pc / 4096) (getD map (pc / 4096) 0) refl (λ z. (let y : _≡_ {A = ℕ} 0 1 = sym z ∙ k in omega arith))
-
-page-real : (map : List ℕ) (first page : ℕ) → first ≡ page * 4096 → realOf map first ≡ base (wordOf map page)
-unfolding realOf real dispOf pageOf
-page-real map first page e =
-    let z : first % 4096 ≡ 0 = omega arith in
-    let y : first / 4096 ≡ page = omega arith in
-    rw (z, y) (omega arith)
 
 module _ (w : Window) (mem map : List ℕ) (ready : Ready w map (length mem)) (regs : List ℕ) (c : Now) where
   pub ready-after : (out : Out) (n : Now) (regs′ mem′ map′ : List ℕ)
       → told out regs′ c (framedOf mem′ map′) ≡ doing step regs c (framedOf mem map) → out ≡ Done n → length mem′ ≡ length mem → Ready w map′ (length mem′)
   unfolding told
   ready-after out n regs′ mem′ map′ t o e =
-      λ l. (ready l .0, ready l .1, ready l .2, subst (λ (x : ℕ). Held (w .base) (wordOf map′ (pageOf (w .first))) x) (sym e) (still-held (ready l .3)))
+      λ l. subst (λ (x : ℕ). Held (w .first) (w .len) (w .base) (wordOf map′ (pageOf (w .first))) x) (sym e) (still-held (ready l))
     where
       ended : interp framed (step (cpuOf regs c)) (framedOf mem map) (framedOf mem map) ≡ finished (cpuOf regs′ n) (framedOf mem′ map′)
       ended =
           was-done (cpuOf regs c) (interp framed (step (cpuOf regs c)) (framedOf mem map) (framedOf mem map)) (cpuOf regs′ n) (framedOf mem′ map′)
           (ap (λ (y : Out). told y regs′ c (framedOf mem′ map′)) (sym o) ∙ t)
 
-      still-held : Held (w .base) (wordOf map (pageOf (w .first))) (length mem) → Held (w .base) (wordOf map′ (pageOf (w .first))) (length mem)
+      still-held : Held (w .first) (w .len) (w .base) (wordOf map (pageOf (w .first))) (length mem) → Held (w .first) (w .len) (w .base) (wordOf map′ (pageOf (w .first))) (length mem)
       still-held =
-          kept-by (λ (x : ℕ). Held (w .base) x (length mem)) (held-accessed (w .base) (length mem)) (held-written (w .base) (length mem)) (pageOf (w .first)) (step (cpuOf regs c)) (framedOf mem map) (framedOf mem map) (cpuOf regs′ n) (framedOf mem′ map′) ended
+          kept-by (λ (x : ℕ). Held (w .first) (w .len) (w .base) x (length mem)) (held-accessed (w .first) (w .len) (w .base) (length mem)) (held-written (w .first) (w .len) (w .base) (length mem)) (pageOf (w .first)) (step (cpuOf regs c)) (framedOf mem map) (framedOf mem map) (cpuOf regs′ n) (framedOf mem′ map′) ended
 
 -- in the window
 module _ (w : Window) (mem map : List ℕ) (ready : Ready w map (length mem)) (pc : ℕ) (b : Bool) (eb : b ≡ inside w pc) (t : b ≡ true) where
@@ -145,84 +124,51 @@ module _ (w : Window) (mem map : List ℕ) (ready : Ready w map (length mem)) (p
   open-now : 0 < w .len
   open-now = omega (arith, not-past)
 
-  beyond-first : pc % 4096 ≡ pc - w .first
-  beyond-first = omega (arith, not-before, not-past, ready open-now .1, ready open-now .2)
+  pub held : Held (w .first) (w .len) (w .base) (wordOf map (pageOf (w .first))) (length mem)
+  held = ready open-now
 
-  on-page : pc / 4096 ≡ w .first / 4096
-  on-page = omega (arith, not-before, not-past, ready open-now .1, ready open-now .2)
+  first-found : lookOf map (length mem) Fetch (w .first) ≡ At (w .base) (held .far)
+  unfolding lookOf
+  first-found = held .found
 
-  six-left : pc % 4096 ≤ 4090
-  six-left = omega (arith, beyond-first, not-past, ready open-now .2)
+  -- what is reached from the window's first byte
+  reached : pc - w .first < held .far
+  reached = omega (arith, not-past, held .room)
 
-  below : pc < 2097152
-  below = omega (arith, on-page, ready open-now .0)
+  there : w .first + (pc - w .first) ≡ pc
+  there = omega (arith, not-before)
 
-  held : Held (w .base) (wordOf map (pageOf pc)) (length mem)
-  held =
-      let p : pageOf (w .first) ≡ pageOf pc = unfold pageOf in sym on-page in
-      subst (λ (x : ℕ). Held (w .base) (wordOf map x) (length mem)) p (ready open-now .3)
+  pub window-found : lookOf map (length mem) Fetch pc ≡ At (w .base + (pc - w .first)) (held .far - (pc - w .first))
+  window-found =
+      ap (lookOf map (length mem) Fetch) (sym there)
+      ∙ reach-behind map (length mem) Fetch (w .first) (w .base) (held .far) first-found (pc - w .first) reached
 
-  pub window-room : pc - w .first < 4091
-  window-room = omega (arith, not-past, ready open-now .2)
+  pub window-six : 6 ≤ held .far - (pc - w .first)
+  window-six = omega (arith, not-past, held .room)
 
-  real-there : w .base + pc % 4096 ≡ realOf map pc
-  unfolding realOf real dispOf
-  real-there = ap (λ (x : ℕ). x + pc % 4096) (held .there)
-
-  pub window-real : (r : ℕ) → r ≡ w .base + (pc - w .first) → r ≡ realOf map pc
-  window-real r e = e ∙ ap (λ (x : ℕ). w .base + x) (sym beyond-first) ∙ real-there
-
-  pub window-small : w .base < 266240
-  window-small = held .small
-
-  pub window-compact : true ≡ compact map (length mem) Fetch pc 6
-  unfolding compact
-  window-compact =
-      let i : realOf map pc + 6 ≤ length mem = omega (arith, real-there, held .room, six-left) in
-      rw (lt-ltb pc 2097152 below, le-leb (pc % 4096 + 6) 4096 (omega (arith, six-left)), held .fair, le-leb (realOf map pc + 6) (length mem) i)
+  pub window-inside : w .base + (pc - w .first) < length mem
+  window-inside = omega (arith, reached, reach-inside map (length mem) Fetch (w .first) (w .base) (held .far) first-found)
 
   -- the page has its mark
   pub window-marked : map ≡ accessedAt map pc
   window-marked =
-      let s : bitG (wordOf map (pageOf pc)) ≡ 1 = held .seen in
-      seen-marked map pc (pageOf pc) (unfold pageOf in refl) s
+      seen-marked map pc (pageOf (w .first))
+      (ap pageOf (sym there) ∙ reach-page map (length mem) Fetch (w .first) (w .base) (held .far) first-found (pc - w .first) reached)
+      (held .seen)
 
 -- opened
 pub shut-ready : (w : Window) (map : List ℕ) (size : ℕ) → w .len ≡ 0 → Ready w map size
 shut-ready w map size e = λ l. absurd (omega arith)
 
-pub open-ready : (map : List ℕ) (size page first len : ℕ) (s b : Bool) (r : ℕ) → first ≡ page * 4096 → len ≤ 4091
-    → s ≡ eqb (bitG (wordOf map page)) 1 → s ≡ true → b ≡ compact map size Fetch first 4096 → b ≡ true → r ≡ realOf map first → r < 266240
+pub open-ready : (map : List ℕ) (size page first len : ℕ) (s : Bool) (found : Look) (r k : ℕ) → first ≡ page * 4096
+    → s ≡ eqb (bitG (wordOf map page)) 1 → s ≡ true → found ≡ lookOf map size Fetch first → found ≡ At r k → len + 5 ≤ k
     → Ready (record { first = first; len = len; base = r }) map size
-unfolding compact
-open-ready map size page first len s b r ef short es ts eb tb er sm =
-    λ l. (low, omega (arith, ef), short, record { fair = ordinarily; seen = ap (λ (x : ℕ). bitG (wordOf map x)) at-page ∙ eqb-true (bitG (wordOf map page)) 1 (sym es ∙ ts); there = stands; room = fitting; small = sm })
+unfolding lookOf
+open-ready map size page first len s found r k ef es ts el f room =
+    λ l. record { far = k; found = sym el ∙ f; room = room; seen = ap (λ (x : ℕ). bitG (wordOf map x)) at-page ∙ eqb-true (bitG (wordOf map page)) 1 (sym es ∙ ts) }
   where
-    p-2 : both (ltb first 2097152) (both (leb (first % 4096 + 4096) 4096) (both (ordinary (wordOf map (pageOf first)) Fetch) (leb (realOf map first + 4096) size))) ≡ true
-    p-2 = right-of (ltb 0 4096) (both (ltb first 2097152) (both (leb (first % 4096 + 4096) 4096) (both (ordinary (wordOf map (pageOf first)) Fetch) (leb (realOf map first + 4096) size)))) (sym eb ∙ tb)
-
-    p-3 : both (leb (first % 4096 + 4096) 4096) (both (ordinary (wordOf map (pageOf first)) Fetch) (leb (realOf map first + 4096) size)) ≡ true
-    p-3 = right-of (ltb first 2097152) (both (leb (first % 4096 + 4096) 4096) (both (ordinary (wordOf map (pageOf first)) Fetch) (leb (realOf map first + 4096) size))) p-2
-
-    p-4 : both (ordinary (wordOf map (pageOf first)) Fetch) (leb (realOf map first + 4096) size) ≡ true
-    p-4 = right-of (leb (first % 4096 + 4096) 4096) (both (ordinary (wordOf map (pageOf first)) Fetch) (leb (realOf map first + 4096) size)) p-3
-
-    ordinarily : ordinary (wordOf map (pageOf first)) Fetch ≡ true
-    ordinarily = left-of (ordinary (wordOf map (pageOf first)) Fetch) (leb (realOf map first + 4096) size) p-4
-
     at-page : pageOf first ≡ page
     at-page = unfold pageOf in omega (arith, ef)
-
-    low : first < 2097152
-    low = ltb-true first 2097152 (left-of (ltb first 2097152) (both (leb (first % 4096 + 4096) 4096) (both (ordinary (wordOf map (pageOf first)) Fetch) (leb (realOf map first + 4096) size))) p-2)
-
-    fitting : r + 4096 ≤ size
-    fitting =
-        let k : realOf map first + 4096 ≤ size = leb-true (realOf map first + 4096) size (right-of (ordinary (wordOf map (pageOf first)) Fetch) (leb (realOf map first + 4096) size) p-4) in
-        omega arith
-
-    stands : r ≡ base (wordOf map (pageOf first))
-    stands = er ∙ page-real map first page ef ∙ ap (λ (x : ℕ). base (wordOf map x)) (sym at-page)
 
 -- a page that the map lacks has no mark
 pub unseen : (map : List ℕ) (page : ℕ) → length map ≤ page → false ≡ eqb (bitG (wordOf map page)) 1

@@ -8,13 +8,12 @@ use lib.Dec.{eqb, leb, ltb}
 use lib.ListN.{length}
 use Rattle.words.specs.Pick.{pick, both}
 use Rattle.words.specs.Said.{Said, says}
-use Rattle.pages.specs.Word.{bitG, base, next, pageOf, wordOf}
-use Rattle.pages.specs.Compact.{ordinary}
+use Rattle.pages.specs.Word.{bitG, next, pageOf, wordOf}
 use Rattle.pages.specs.declared.Access.the-variants.{Fetch}
 use Rattle.pages.specs.declared.Look.{Look}
 use Rattle.pages.specs.declared.Look.the-variants.{At, Refused}
 use Rattle.pages.specs.Tests.{numberOf}
-use Rattle.pages.specs.Look.{lookOf}
+use Rattle.pages.specs.Look.{lookOf, lookWith}
 use Rattle.pages.specs.Framed.{Framed, accessedAt}
 use Rattle.code.specs.declared.Action.the-variants.{Rr, Rx, Rs, Si, Ss}
 use Rattle.code.specs.declared.Found.{Found}
@@ -58,7 +57,7 @@ halvesOf h1 = halves (actionOf (opOf h1))
 
 -- a halfword's look-up, byte by byte, leaves G on the page of each byte that it finds
 abbrev pub markedIf : Look → List ℕ → List ℕ → List ℕ
-markedIf (At r) marked map = marked
+markedIf (At r k) marked map = marked
 markedIf (Refused c a) marked map = map
 
 unfoldable pub halfMarks : List ℕ → ℕ → ℕ → List ℕ
@@ -69,7 +68,7 @@ halfMarks map size a =
 
 -- a halfword that the operation has or lacks: its look-up and its marks, and what is done with it; one that it lacks is read all the same
 abbrev pub lookWanted : Bool → List ℕ → ℕ → ℕ → Look
-lookWanted b map size a = pick b (lookOne map size Fetch a 2) (At 0)
+lookWanted b map size a = pick b (lookOne map size Fetch a 2) (At 0 0)
 
 abbrev pub wantedMarks : Bool → List ℕ → ℕ → ℕ → List ℕ
 wantedMarks b map size a = pick b (halfMarks map size a) map
@@ -96,7 +95,7 @@ fetched (T.Stop n a) s = refused n a s
 -- a look-up's refusal, handed on (asked of a refusal only)
 abbrev pub stopOf : Look → Fetched
 stopOf (Refused c a) = T.Stop (numberOf c) a
-stopOf (At r) = T.Stop 0 0
+stopOf (At r k) = T.Stop 0 0
 
 -- the action on halfwords that are in hand
 abbrev pub actWhole : Found → ℕ → ℕ → ℕ → Cpu → Prog Cpu
@@ -138,18 +137,17 @@ ranReply r =
       mask = r .now .mask;
     }
 
--- a page word in a window: ordinary, accessed, with the whole page in memory from b on
-pub record Held (b w size : ℕ) : Type 0 where
-  pub fair : ordinary w Fetch ≡ true
+-- the word of a page with a window: accessed, and the look-up of the window's first byte, found at b, reaches its instructions' last bytes
+pub record Held (first len b w size : ℕ) : Type 0 where
+  pub far : ℕ
+  pub found : lookWith w size Fetch first ≡ At b far
+  pub room : len + 5 ≤ far
   pub seen : bitG w ≡ 1
-  pub there : b ≡ base w
-  pub room : b + 4096 ≤ size
-  pub small : b < 266240
 
 -- a window is shut, or holds of this map and a memory of this size
 abbrev pub Ready : Window → List ℕ → ℕ → Type 0
 Ready w map size =
-    0 < w .len → (w .first < 2097152) × (w .first % 4096 ≡ 0) × (w .len ≤ 4091) × Held (w .base) (wordOf map (pageOf (w .first))) size
+    0 < w .len → Held (w .first) (w .len) (w .base) (wordOf map (pageOf (w .first))) size
 
 -- whether six bytes from pc on lie in the window
 abbrev pub inside : Window → ℕ → Bool

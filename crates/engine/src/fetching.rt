@@ -3,6 +3,7 @@ use crate::Fetched;
 use crate::Window;
 use crate::formats;
 use pages::Access;
+use pages::Look;
 ghost use mathlib.Core.Path.{_≡_};
 ghost use lib.Dec.{eqb};
 ghost use lib.ListN.{length};
@@ -42,19 +43,23 @@ fn is_seen(map: &[u16], page: u32) -> bool
     false
 }
 
-// The window for the page of pc, where it may have one.
+// The window for the page of pc, where it may have one: as far as the look-up of the page's first byte reaches, less the five bytes from
+// which no six are left.
 fn open(mem: &[u8], map: &[u16], pc: u32) -> Window
     ensures { λ r. ⌜ Ready r (now (map .entry)) (length (now (mem .entry))) ⌝ }
 {
     let page = pc / 4096;
     let first = page * 4096;
     if is_seen(map, page) {
-        if lookup::is_compact(map, mem.len(), Access::Fetch, first, 4096) {
-            return Window {
-                first: first,
-                len: 4091,
-                base: lookup::real_at(map, first),
-            };
+        let found = lookup::look_up(map, mem.len(), Access::Fetch, first);
+        if let Look::At(r, reach) = found {
+            if 6 <= reach {
+                return Window {
+                    first: first,
+                    len: reach - 5,
+                    base: r,
+                };
+            }
         }
     }
     shut()

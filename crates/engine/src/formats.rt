@@ -11,14 +11,7 @@ ghost use Rattle.pages.specs.Framed.{framedOf};
 ghost use Rattle.actions.specs.Answered.{told, doing};
 ghost use Rattle.fields.specs.Direct.{lookOne};
 ghost use Rattle.pages.specs.declared.Access.the-variants.{Fetch};
-ghost use Rattle.engine.specs.Entry.{past, halvesOf, stopOf, halfMarks, lookWanted, wantedMarks, fetched, fetching, whole};
-
-// The address so many bytes past the counter.
-fn past_of(pc: u32, n: u32) -> u32
-    ensures { λ r. ⌜ r ≡ past pc n ⌝ }
-{
-    ((pc as u64 + n as u64) % 16777216) as u32
-}
+ghost use Rattle.engine.specs.Entry.{halvesOf, stopOf, halfMarks, lookWanted, wantedMarks, fetched, fetching, whole};
 
 // How many halfwords are fetched, by the first: one only of an operation that is not known. The known ones of four and six bytes are bits,
 // in a row for each two left bits of the code (RR; RX; RS and SI; SS), the lowest code at the right: to ask `decode::action_of` a second
@@ -40,23 +33,26 @@ fn stop_of(look: Look) -> Fetched
 {
     match look {
         Look::Refused(cause, at) => Fetched::Stop(actions::number_of(cause), at),
-        Look::At(_) => Fetched::Stop(0, 0),
+        Look::At(_, _) => Fetched::Stop(0, 0),
     }
 }
 
-// The two bytes of a halfword are looked up for fetching, and the page of each is marked as it is found: the first refusal, or the first
-// byte's real address.
+// The two bytes of a halfword are looked up for fetching, at once where the first look-up reaches both, and the page of each is marked as it
+// is found: the first refusal, or the first byte's look-up.
 fn look_half(map: &mut [u16], size: usize, at: u32) -> Look
     ensures { λ r. ⌜ (r ≡ lookOne (now (map .entry)) size Fetch at 2) × (now (map .exit) ≡ halfMarks (now (map .entry)) size at) ⌝ }
 {
     let first = lookup::look_up(map, size, Access::Fetch, at);
-    let Look::At(_) = first else {
+    let Look::At(_, reach) = first else {
         return first;
     };
     lookup::note(map, at);
+    if 2 <= reach {
+        return first;
+    }
     let behind = lookup::next_of(at);
     let second = lookup::look_up(map, size, Access::Fetch, behind);
-    let Look::At(_) = second else {
+    let Look::At(_, _) = second else {
         return second;
     };
     lookup::note(map, behind);
@@ -70,7 +66,7 @@ fn look_wanted(map: &mut [u16], size: usize, at: u32, wanted: bool) -> Look
     if wanted {
         return look_half(map, size, at);
     }
-    Look::At(0)
+    Look::At(0, 0)
 }
 
 // The halfwords from the counter on, each looked up by itself, in document 01's order: the first refusal is handed on at once, and the pages
@@ -80,33 +76,36 @@ fn text_each(mem: &[u8], map: &mut [u16], pc: u32) -> Fetched
 {
     let size = mem.len();
     let first = look_half(map, size, pc);
-    let Look::At(_) = first else {
+    let Look::At(_, _) = first else {
         return stop_of(first);
     };
     let h1 = fields::read_half(mem, map, pc);
     let n = halves_of(h1);
-    let on = past_of(pc, 2);
+    let on = lookup::past_of(pc, 2);
     let second = look_wanted(map, size, on, 1 < n);
-    let Look::At(_) = second else {
+    let Look::At(_, _) = second else {
         return stop_of(second);
     };
     let h2 = fields::read_half(mem, map, on);
-    let last = past_of(pc, 4);
+    let last = lookup::past_of(pc, 4);
     let third = look_wanted(map, size, last, 2 < n);
-    let Look::At(_) = third else {
+    let Look::At(_, _) = third else {
         return stop_of(third);
     };
     let h3 = fields::read_half(mem, map, last);
     Fetched::Whole(h1, h2, h3)
 }
 
-// The halfwords from the counter on, and their marks: by one look-up where the six bytes are compact. Those that the operation lacks are
-// read with the rest.
+// The halfwords from the counter on, and their marks: by one look-up where it reaches six bytes. Those that the operation lacks are read
+// with the rest.
 pub fn text(mem: &[u8], map: &mut [u16], pc: u32) -> Fetched
     ensures { λ r. ⌜ fetched r (framedOf (now (mem .entry)) (now (map .exit))) ≡ fetching pc (framedOf (now (mem .entry)) (now (map .entry))) ⌝ }
 {
-    if lookup::is_compact(map, mem.len(), Access::Fetch, pc, 6) {
-        let r = lookup::real_at(map, pc);
+    let found = lookup::look_up(map, mem.len(), Access::Fetch, pc);
+    let Look::At(r, reach) = found else {
+        return stop_of(found);
+    };
+    if 6 <= reach {
         let h1 = fields::flat::half_of(mem, r);
         let h2 = fields::flat::half_of(mem, r + 2);
         let h3 = fields::flat::half_of(mem, r + 4);

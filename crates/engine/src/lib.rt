@@ -15,8 +15,8 @@ pub enum Fetched {
     Stop(u32, u32),
 }
 
-// Where a run fetches from without looking up again: an ordinary page that has its mark, from its first address on, as far as six bytes
-// still lie in it, and where it begins in memory. A length of 0 stands for no page.
+// Where a run fetches from without looking up again: a page that has its mark, from its first address on, as far as six bytes still lie
+// in what the look-up reaches, and where it begins in memory. A length of 0 stands for no page.
 pub struct Window {
     pub first: u32,
     pub len: u32,

@@ -23,7 +23,7 @@ use Rattle.fields.specs.Direct.{orElse, lookField, noteField, readField,
 
 -- what follows a look-up of a field: a refusal, or the rest
 abbrev pub afterLook : {R : Type 0} → Look → (Framed → Answer R Framed) → Framed → Framed → Answer R Framed
-afterLook (At r) go s kept = go s
+afterLook (At r k) go s kept = go s
 afterLook (Refused c a) go s kept = refused (numberOf c) a kept
 
 -- the store with G noted on each byte's page
@@ -40,7 +40,7 @@ field-blind s b acc a (suc n) rest = rw (blind s b acc a, field-blind s b acc (n
 -- an operand's bytes: a refusal keeps nothing of their look-ups
 pub looks-is : {R : Type 0} (acc : Access) → ForOperand acc → (a n : ℕ) (k : Prog R) (kept s : Framed) (r : ℕ)
     → interp framed (looks acc a n k) kept s
-    ≡ afterLook (lookField (s .map) (length (s .mem)) acc a n (At r)) (λ t. interp framed k kept t) (notedField s a n) kept
+    ≡ afterLook (lookField (s .map) (length (s .mem)) acc a n (At r 0)) (λ t. interp framed k kept t) (notedField s a n) kept
 unfolding looks interp lookField noteField
 looks-is acc op a zero k kept s r = refl
 looks-is acc op a (suc n) k kept s r =
@@ -48,12 +48,12 @@ looks-is acc op a (suc n) k kept s r =
   where
     go : (l : Look) → lookIn s acc a ≡ l
         → interp framed (looks acc (next a) n k) kept (noted s a)
-        ≡ afterLook (lookField (accessedAt (s .map) a) (length (s .mem)) acc (next a) n (At r)) (λ t. interp framed k kept t) (notedField (noted s a) (next a) n) kept
+        ≡ afterLook (lookField (accessedAt (s .map) a) (length (s .mem)) acc (next a) n (At r 0)) (λ t. interp framed k kept t) (notedField (noted s a) (next a) n) kept
         → after (verdictOf l) (λ t. interp framed (looks acc (next a) n k) kept t) (noted s a) a kept
-        ≡ afterLook (orElse l (lookField (s .map) (length (s .mem)) acc (next a) n (At r))) (λ t. interp framed k kept t) (notedField (noted s a) (next a) n) kept
-    go (At x) e ih =
+        ≡ afterLook (orElse l (lookField (s .map) (length (s .mem)) acc (next a) n (At r 0))) (λ t. interp framed k kept t) (notedField (noted s a) (next a) n) kept
+    go (At x y) e ih =
         ih
-        ∙ ap (λ (l : Look). afterLook l (λ t. interp framed k kept t) (notedField (noted s a) (next a) n) kept) (field-blind s a acc (next a) n (At r))
+        ∙ ap (λ (l : Look). afterLook l (λ t. interp framed k kept t) (notedField (noted s a) (next a) n) kept) (field-blind s a acc (next a) n (At r 0))
     go (Refused c p) e ih =
         ap (λ (x : ℕ). refused (numberOf c) x kept) (refused-place (s .map) (length (s .mem)) acc a c p e)
 

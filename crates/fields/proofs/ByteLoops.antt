@@ -12,10 +12,10 @@ use Rattle.words.specs.Codes.{compareBits}
 use Rattle.pages.specs.declared.Access.{Access}
 use Rattle.pages.specs.declared.Cause.{Cause}
 use Rattle.pages.specs.declared.Look.{Look}
-use Rattle.pages.specs.declared.Look.the-variants.{At, Refused}
+use Rattle.pages.specs.declared.Look.the-variants.{Refused}
 use Rattle.pages.specs.Word.{next}
 use Rattle.pages.specs.Look.{lookOf}
-use Rattle.pages.specs.Framed.{Framed, accessedAt, readByte, writeByte}
+use Rattle.pages.specs.Framed.{Framed, readByte, writeByte}
 use Rattle.fields.specs.declared.Field.{Field}
 use Rattle.fields.specs.Direct.{orElse, lookField, lookFields, noteField, moveField, compareField}
 
@@ -44,28 +44,18 @@ module _ (left : ℕ) (z : left ≤ 0) where
   compare-none s a b = rw is-zero
 
 -- a turn
-pub look-turn : (map : List ℕ) (size : ℕ) (acc : Access) (a : ℕ) (rest : Look) (left : ℕ) → 0 < left
+look-turn : (map : List ℕ) (size : ℕ) (acc : Access) (a : ℕ) (rest : Look) (left : ℕ) → 0 < left
     → lookField map size acc a left rest ≡ orElse (lookOf map size acc a) (lookField map size acc (next a) (left - 1) rest)
 unfolding lookField
 look-turn map size acc a rest zero h = absurd (omega arith)
 look-turn map size acc a rest (suc k) h = rw pred-suc
 
-module _ (map : List ℕ) (size : ℕ) (acc : Access) (a : ℕ) (rest found : Look) (e : found ≡ lookOf map size acc a) (left : ℕ) (h : 0 < left) where
-  pub look-on : (r : ℕ) → found ≡ At r → lookField map size acc a left rest ≡ lookField map size acc (next a) (left - 1) rest
-  look-on r f =
-      look-turn map size acc a rest left h
-      ∙ ap (λ (l : Look). orElse l (lookField map size acc (next a) (left - 1) rest)) (sym e ∙ f)
-
-  pub look-stop : (c : Cause) (p : ℕ) → found ≡ Refused c p → found ≡ lookField map size acc a left rest
-  look-stop c p f =
-      f
-      ∙ ap (λ (l : Look). orElse l (lookField map size acc (next a) (left - 1) rest)) (sym f ∙ e)
-      ∙ sym (look-turn map size acc a rest left h)
-
-pub note-turn : (map : List ℕ) (a left : ℕ) → 0 < left → noteField map a left ≡ noteField (accessedAt map a) (next a) (left - 1)
-unfolding noteField
-note-turn map a zero h = absurd (omega arith)
-note-turn map a (suc k) h = rw pred-suc
+pub look-stop : (map : List ℕ) (size : ℕ) (acc : Access) (a : ℕ) (rest found : Look) → found ≡ lookOf map size acc a → (left : ℕ) → 0 < left
+    → (c : Cause) (p : ℕ) → found ≡ Refused c p → found ≡ lookField map size acc a left rest
+look-stop map size acc a rest found e left h c p f =
+    f
+    ∙ ap (λ (l : Look). orElse l (lookField map size acc (next a) (left - 1) rest)) (sym f ∙ e)
+    ∙ sym (look-turn map size acc a rest left h)
 
 pub move-turn : (s : Framed) (a b left : ℕ) → 0 < left
     → moveField s a b left ≡ moveField (writeByte s a (readByte s b)) (next a) (next b) (left - 1)

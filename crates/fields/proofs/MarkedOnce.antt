@@ -3,16 +3,14 @@ use Prim.Native.Nat.{ℕ, zero, suc, _+_, _-_, _%_, _<_, _≤_}
 use native.Mathlib.Omega.{arith}
 use native.Mathlib.Nat.{add-zero}
 use mathlib.Core.Path.{_≡_, refl, sym, _∙_, ap}
-use mathlib.Core.Bool.{Bool, true, false}
 use mathlib.Core.List.{List}
-use borrow.Author.Tests.{lt-ltb, le-leb, lt-leb, leb-true, ltb-true}
-use lib.Dec.{leb, ltb}
-use Rattle.words.specs.Pick.{both}
+use borrow.Author.Tests.{lt-ltb, le-ltb}
 use Rattle.pages.specs.Word.{pageOf, next}
 use Rattle.pages.specs.Framed.{accessedAt}
 use Rattle.pages.proofs.Marks.{accessed-again}
-use Rattle.words.proofs.Tests.{left-of, right-of}
-use Rattle.fields.specs.Direct.{onPage, noteField}
+use Rattle.words.proofs.Choice.{by-order}
+use Rattle.fields.specs.Direct.{inPage, noteField}
+use Rattle.fields.proofs.Pieces.{note-pieces}
 
 -- noted once for a field within a page
 pub note-once : (map : List ℕ) (a k : ℕ) → 0 < k → a % 4096 + k ≤ 4096 → a < 16777216 → accessedAt map a ≡ noteField map a k
@@ -29,30 +27,29 @@ note-once map a (suc k) p h l = go k 0 (omega arith) ∙ ap (λ (b : ℕ). noteF
         ∙ ap (λ (m : List ℕ). noteField m (next (a + (d + 1))) j) (sym (accessed-again map a (a + (d + 1)) s))
         ∙ ap (λ (b : ℕ). noteField (accessedAt (accessedAt map a) b) (next b) j) (sym n)
 
--- the code's test for it
-pub page-note : (map : List ℕ) (a n : ℕ) (b : Bool) (map′ : List ℕ) → b ≡ onPage a n → b ≡ true → map′ ≡ accessedAt map a → map′ ≡ noteField map a n
-page-note map a n b map′ eb t em =
-    em
-    ∙ note-once map a n
-    (ltb-true 0 n (left-of (ltb 0 n) (both (leb (a % 4096 + n) 4096) (ltb a 16777216)) is-on))
-    (leb-true (a % 4096 + n) 4096 (left-of (leb (a % 4096 + n) 4096) (ltb a 16777216) tail))
-    (ltb-true a 16777216 (right-of (leb (a % 4096 + n) 4096) (ltb a 16777216) tail))
+-- and on from there, page by page
+page-low : (a : ℕ) → a < 16777216 → inPage a ≡ 4096 - a % 4096
+unfolding inPage
+page-low a h = rw (lt-ltb a 16777216 h)
+
+page-high : (a : ℕ) → 16777216 ≤ a → inPage a ≡ 1
+unfolding inPage
+page-high a h = rw (le-ltb a 16777216 h)
+
+pub page-some : (a k : ℕ) → k ≡ inPage a → 0 < k
+page-some a k e = by-order a 16777216 (λ h. omega (arith, page-low a h)) (λ h. omega (arith, page-high a h))
+
+note-page : (map : List ℕ) (a s : ℕ) → 0 < s → s ≤ inPage a → accessedAt map a ≡ noteField map a s
+note-page map a s p l =
+    by-order a 16777216
+    (λ b. note-once map a s p (omega (arith, page-low a b)) b)
+    (λ b. once ∙ ap (noteField map a) (let z : 1 ≡ s = omega (arith, page-high a b) in z))
   where
-    is-on : both (ltb 0 n) (both (leb (a % 4096 + n) 4096) (ltb a 16777216)) ≡ true
-    is-on = unfold onPage in sym eb ∙ t
+    once : accessedAt map a ≡ noteField map a 1
+    once = unfold noteField in refl
 
-    tail : both (leb (a % 4096 + n) 4096) (ltb a 16777216) ≡ true
-    tail = right-of (ltb 0 n) (both (leb (a % 4096 + n) 4096) (ltb a 16777216)) is-on
-
--- the tests themselves
-pub not-on-empty : (a n : ℕ) → n ≡ 0 → false ≡ onPage a n
-unfolding onPage
-not-on-empty a n h = rw h
-
-pub not-on-far : (a n : ℕ) → (n ≡ 0 → ⊥) → 4096 - a % 4096 < n → false ≡ onPage a n
-unfolding onPage
-not-on-far a n z h = rw (lt-ltb 0 n (omega arith), lt-leb (a % 4096 + n) 4096 (omega arith))
-
-pub on-is : (a n : ℕ) → (n ≡ 0 → ⊥) → n ≤ 4096 - a % 4096 → ltb a 16777216 ≡ onPage a n
-unfolding onPage
-on-is a n z h = rw (lt-ltb 0 n (omega arith), le-leb (a % 4096 + n) 4096 (omega arith))
+pub note-on : (map : List ℕ) (a n s : ℕ) (map′ : List ℕ) → 0 < s → s ≤ n → s ≤ inPage a → map′ ≡ accessedAt map a
+    → noteField map a n ≡ noteField map′ ((a + s) % 16777216) (n - s)
+note-on map a n s map′ p h l em =
+    note-pieces n s p h map a
+    ∙ ap (λ (m : List ℕ). noteField m ((a + s) % 16777216) (n - s)) (sym (note-page map a s p l) ∙ sym em)

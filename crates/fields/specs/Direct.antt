@@ -1,10 +1,9 @@
 -- Fields of bytes, directly: looked up in the store as it stands, noted, read, written, moved and compared.
-use Prim.Native.Nat.{ℕ, zero, suc, _+_, _*_, _/_, _%_, _^_}
+use Prim.Native.Nat.{ℕ, zero, suc, _+_, _-_, _*_, _/_, _%_, _^_}
 use mathlib.Core.List.{List, [], _∷_}
-use mathlib.Core.Bool.{Bool}
-use lib.Dec.{eqb, leb, ltb}
+use lib.Dec.{eqb, ltb}
 use lib.ListN.{length, getD, set}
-use Rattle.words.specs.Pick.{pick, both}
+use Rattle.words.specs.Pick.{pick}
 use Rattle.words.specs.Codes.{compareBits}
 use Rattle.pages.specs.declared.Access.{Access}
 use Rattle.pages.specs.declared.Look.{Look}
@@ -14,13 +13,13 @@ use Rattle.pages.specs.Look.{lookOf}
 use Rattle.pages.specs.Framed.{Framed, accessedAt, readByte, writeByte}
 use Rattle.fields.specs.declared.Field.{Field}
 
--- a field in one page
-unfoldable pub onPage : ℕ → ℕ → Bool
-onPage a n = both (ltb 0 n) (both (leb (a % 4096 + n) 4096) (ltb a 16777216))
+-- how many addresses from a on have the page of a; past the last address the next one is 0
+unfoldable pub inPage : ℕ → ℕ
+inPage a = pick (ltb a 16777216) (4096 - a % 4096) 1
 
 -- a refusal, or what comes next
 abbrev pub orElse : Look → Look → Look
-orElse (At r) rest = rest
+orElse (At r k) rest = rest
 orElse (Refused c a) rest = Refused c a
 
 -- n bytes from a on: the first refusal, or what `rest` says
@@ -33,7 +32,7 @@ unfoldable pub lookFields : List ℕ → ℕ → List Field → Look → Look
 lookFields map size [] rest = rest
 lookFields map size (f ∷ fs) rest = lookField map size (f .access) (f .at) (f .len) (lookFields map size fs rest)
 
--- one field: the first refusal, or the real address of its first byte
+-- one field: the first refusal, or the look-up of its first byte
 unfoldable pub lookOne : List ℕ → ℕ → Access → ℕ → ℕ → Look
 lookOne map size acc a n = lookField map size acc a n (lookOf map size acc a)
 

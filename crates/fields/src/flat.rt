@@ -1,4 +1,4 @@
-// Fields by real address, as they lie in memory. Who calls has looked the field up, or found it compact: it lies whole in memory.
+// Fields by real address, as they lie in memory. Who calls has looked the field up, and the look-up reached its end: it lies whole in memory.
 use code::Width;
 ghost use mathlib.Core.Path.{_≡_};
 ghost use Prim.Native.Nat.{_<_, _≤_, _+_};

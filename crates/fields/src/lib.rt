@@ -1,9 +1,10 @@
-// Fields of bytes in storage: looked up before anything is stored, noted, read, written, moved and compared. A field that lies whole in
-// one ordinary page takes the quick way, by real address; any other goes byte by byte.
+// Fields of bytes in storage: looked up before anything is stored, noted, read, written, moved and compared. As far as a look-up reaches, by
+// real address.
 pub mod flat; // flat.rt: fields by real address
 
 use code::Width;
 use pages::Access;
+use pages::Cause;
 use pages::Look;
 ghost use mathlib.Core.Path.{_≡_};
 ghost use mathlib.Core.Bool.{not};
@@ -14,7 +15,7 @@ ghost use lib.ListN.{length};
 ghost use Rattle.machine.specs.Fields.{bytesOf};
 ghost use Rattle.pages.specs.Framed.{framedOf};
 ghost use Rattle.pages.specs.Look.{lookOf};
-ghost use Rattle.fields.specs.Direct.{onPage, lookFields, lookOne, noteField, readField, writeField, moveField, compareField, flatMove, flatCompare};
+ghost use Rattle.fields.specs.Direct.{inPage, lookFields, lookOne, noteField, readField, writeField, moveField, compareField, flatMove, flatCompare};
 
 // So many bytes from an address on, and what they are wanted for.
 pub struct Field {
@@ -30,8 +31,9 @@ fn look_first(map: &[u16], size: usize, f: Field) -> Look
     lookup::look_up(map, size, access, f.at)
 }
 
-// Every byte of both fields is looked up, first field, then second: the first refusal, or the first byte's real address.
-fn look_each(map: &[u16], size: usize, first: Field, second: Field) -> Look
+// Every byte of both fields is looked up, first field, then second, going on by what each look-up reached: the first refusal, or the first
+// byte's look-up.
+pub fn look_each(map: &[u16], size: usize, first: Field, second: Field) -> Look
     ensures { λ r. ⌜ r ≡ lookFields (now (map .entry)) size (first ∷ second ∷ []) (lookOf (now (map .entry)) size (first .access) (first .at)) ⌝ }
 {
     let fields = [first, second];
@@ -44,38 +46,28 @@ fn look_each(map: &[u16], size: usize, first: Field, second: Field) -> Look
         let mut left = field.len;
         while 0 < left {
             let look = lookup::look_up(map, size, access, at);
-            let Look::At(_) = look else {
+            let Look::At(_, reach) = look else {
                 found = look;
                 break 'fields;
             };
-            at = lookup::next_of(at);
-            left = left - 1;
+            let step = lookup::fewer_of(left, reach as usize);
+            at = lookup::past_of(at, step);
+            left = left - step;
         }
         k = k + 1;
     }
     found
 }
 
-// Two fields, at once where both are compact.
-pub fn look_two(map: &[u16], size: usize, first: Field, second: Field) -> Look
-    ensures { λ r. ⌜ r ≡ lookFields (now (map .entry)) size (first ∷ second ∷ []) (lookOf (now (map .entry)) size (first .access) (first .at)) ⌝ }
-{
-    let access = first.access;
-    let other = second.access;
-    if lookup::is_compact(map, size, access, first.at, first.len) {
-        if lookup::is_compact(map, size, other, second.at, second.len) {
-            return Look::At(lookup::real_at(map, first.at));
-        }
-    }
-    look_each(map, size, first, second)
-}
-
-// One field, at once where it is compact.
+// One field: its first look-up decides wherever it reaches.
 pub fn look_one(map: &[u16], size: usize, access: Access, at: u32, len: u32) -> Look
     ensures { λ r. ⌜ r ≡ lookOne (now (map .entry)) size access at len ⌝ }
 {
-    if lookup::is_compact(map, size, access, at, len) {
-        return Look::At(lookup::real_at(map, at));
+    let found = lookup::look_up(map, size, access, at);
+    if let Look::At(_, reach) = found {
+        if len <= reach {
+            return found;
+        }
     }
     let field = Field {
         access: access,
@@ -90,39 +82,39 @@ pub fn look_one(map: &[u16], size: usize, access: Access, at: u32, len: u32) -> 
     look_each(map, size, field, nothing)
 }
 
-// G set on the page of each byte: at once where they have one page.
+// An operand on its boundary: it lies in one page, so that where the look-up does not reach its end, memory ends within it.
+pub fn look_operand(map: &[u16], size: usize, access: Access, at: u32, len: u32) -> Look
+    requires { ⌜ at % 2048 + len ≤ 2048 ⌝ }
+    ensures { λ r. ⌜ r ≡ lookOne (now (map .entry)) size access at len ⌝ }
+{
+    let found = lookup::look_up(map, size, access, at);
+    let Look::At(_, reach) = found else {
+        return found;
+    };
+    if reach < len {
+        return Look::Refused(Cause::Addressing, at + reach);
+    }
+    found
+}
+
+// How many addresses from this one on have its page; past the last address the next one is 0.
+fn in_page(at: u32) -> u32
+    ensures { λ r. ⌜ r ≡ inPage at ⌝ }
+{
+    if at < 16777216 { 4096 - at % 4096 } else { 1 }
+}
+
+// G set on the page of each byte, page by page.
 pub fn note_field(map: &mut [u16], at: u32, len: u32)
-    ensures { λ _. ⌜ now (map .exit) ≡ noteField (now (map .entry)) at len ⌝ }
-{
-    if is_on_page(at, len) {
-        lookup::note(map, at);
-        return;
-    }
-    note_each(map, at, len);
-}
-
-// Whether a field lies in one page and does not wrap.
-fn is_on_page(at: u32, len: u32) -> bool
-    ensures { λ r. ⌜ r ≡ onPage at len ⌝ }
-{
-    if len == 0 {
-        return false;
-    }
-    if 4096 - at % 4096 < len {
-        return false;
-    }
-    at < 16777216
-}
-
-fn note_each(map: &mut [u16], at: u32, len: u32)
     ensures { λ _. ⌜ now (map .exit) ≡ noteField (now (map .entry)) at len ⌝ }
 {
     let mut to = at;
     let mut left = len;
     while 0 < left {
         lookup::note(map, to);
-        to = lookup::next_of(to);
-        left = left - 1;
+        let step = lookup::fewer_of(left, in_page(to) as usize);
+        to = lookup::past_of(to, step);
+        left = left - step;
     }
 }
 
@@ -158,8 +150,11 @@ fn half_each(mem: &[u8], map: &[u16], at: u32) -> u16
 pub fn read_half(mem: &[u8], map: &[u16], at: u32) -> u16
     ensures { λ r. ⌜ r ≡ readField (framedOf (now (mem .entry)) (now (map .entry))) at 2 0 ⌝ }
 {
-    if lookup::is_compact(map, mem.len(), Access::Load, at, 2) {
-        return flat::half_of(mem, lookup::real_at(map, at));
+    let found = lookup::look_up(map, mem.len(), Access::Load, at);
+    if let Look::At(r, reach) = found {
+        if 2 <= reach {
+            return flat::half_of(mem, r);
+        }
     }
     half_each(mem, map, at)
 }
@@ -175,8 +170,11 @@ fn word_each(mem: &[u8], map: &[u16], at: u32) -> u32
 pub fn read_word(mem: &[u8], map: &[u16], at: u32) -> u32
     ensures { λ r. ⌜ r ≡ readField (framedOf (now (mem .entry)) (now (map .entry))) at 4 0 ⌝ }
 {
-    if lookup::is_compact(map, mem.len(), Access::Load, at, 4) {
-        return flat::word_of(mem, lookup::real_at(map, at));
+    let found = lookup::look_up(map, mem.len(), Access::Load, at);
+    if let Look::At(r, reach) = found {
+        if 4 <= reach {
+            return flat::word_of(mem, r);
+        }
     }
     word_each(mem, map, at)
 }
@@ -203,32 +201,47 @@ fn word_put_each(mem: &mut [u8], map: &mut [u16], at: u32, v: u32)
 pub fn write_word(mem: &mut [u8], map: &mut [u16], at: u32, v: u32)
     ensures { λ _. ⌜ framedOf (now (mem .exit)) (now (map .exit)) ≡ writeField (framedOf (now (mem .entry)) (now (map .entry))) at 4 v ⌝ }
 {
-    if lookup::is_compact(map, mem.len(), Access::Store, at, 4) {
-        flat::put_word(mem, lookup::real_at(map, at), v);
-        lookup::note_written(map, at);
-        return;
+    let found = lookup::look_up(map, mem.len(), Access::Store, at);
+    if let Look::At(r, reach) = found {
+        if 4 <= reach {
+            flat::put_word(mem, r, v);
+            lookup::note_written(map, at);
+            return;
+        }
     }
     word_put_each(mem, map, at, v);
 }
 
-// At once where both fields are compact.
+// Piece by piece, left to right: as many bytes at a time as both look-ups reach. (Byte by byte from a byte on that is refused: nobody
+// moves such a field.)
 pub fn move_field(mem: &mut [u8], map: &mut [u16], to: u32, from: u32, len: u32)
     ensures { λ _. ⌜ framedOf (now (mem .exit)) (now (map .exit)) ≡ moveField (framedOf (now (mem .entry)) (now (map .entry))) to from len ⌝ }
 {
-    if lookup::is_compact(map, mem.len(), Access::Store, to, len) {
-        if lookup::is_compact(map, mem.len(), Access::Load, from, len) {
-            let a = lookup::real_at(map, to);
-            let b = lookup::real_at(map, from);
-            move_flat(mem, a, b, len);
-            lookup::note_written(map, to);
+    let mut a = to;
+    let mut b = from;
+    let mut left = len;
+    while 0 < left {
+        let there = lookup::look_up(map, mem.len(), Access::Store, a);
+        let Look::At(x, room) = there else {
+            move_each(mem, map, a, b, left);
             return;
-        }
+        };
+        let here = lookup::look_up(map, mem.len(), Access::Load, b);
+        let Look::At(y, more) = here else {
+            move_each(mem, map, a, b, left);
+            return;
+        };
+        let step = lookup::fewer_of(lookup::fewer_of(left, room as usize), more as usize);
+        move_flat(mem, x, y, step);
+        lookup::note_written(map, a);
+        a = lookup::past_of(a, step);
+        b = lookup::past_of(b, step);
+        left = left - step;
     }
-    move_each(mem, map, to, from, len);
 }
 
 // By real address, left to right.
-fn move_flat(mem: &mut [u8], to: usize, from: usize, len: u32)
+pub fn move_flat(mem: &mut [u8], to: usize, from: usize, len: u32)
     requires { ⌜ (to + len ≤ length (now mem)) × (from + len ≤ length (now mem)) ⌝ }
     ensures { λ _. ⌜ now (mem .exit) ≡ flatMove (now (mem .entry)) to from len ⌝ }
 {
@@ -259,21 +272,35 @@ fn move_each(mem: &mut [u8], map: &mut [u16], to: u32, from: u32, len: u32)
     }
 }
 
-// The code of the first two bytes that differ, or 0: at once where both fields are compact.
+// The code of the first two bytes that differ, or 0, piece by piece as in a move.
 pub fn compare_field(mem: &[u8], map: &[u16], first: u32, second: u32, len: u32) -> u32
     ensures { λ r. ⌜ r ≡ compareField (framedOf (now (mem .entry)) (now (map .entry))) first second len ⌝ }
 {
-    if lookup::is_compact(map, mem.len(), Access::Load, first, len) {
-        if lookup::is_compact(map, mem.len(), Access::Load, second, len) {
-            let a = lookup::real_at(map, first);
-            let b = lookup::real_at(map, second);
-            return compare_flat(mem, a, b, len);
+    let mut a = first;
+    let mut b = second;
+    let mut left = len;
+    while 0 < left {
+        let one = lookup::look_up(map, mem.len(), Access::Load, a);
+        let Look::At(x, room) = one else {
+            return compare_each(mem, map, a, b, left);
+        };
+        let other = lookup::look_up(map, mem.len(), Access::Load, b);
+        let Look::At(y, more) = other else {
+            return compare_each(mem, map, a, b, left);
+        };
+        let step = lookup::fewer_of(lookup::fewer_of(left, room as usize), more as usize);
+        let code = compare_flat(mem, x, y, step);
+        if code != 0 {
+            return code;
         }
+        a = lookup::past_of(a, step);
+        b = lookup::past_of(b, step);
+        left = left - step;
     }
-    compare_each(mem, map, first, second, len)
+    0
 }
 
-fn compare_flat(mem: &[u8], first: usize, second: usize, len: u32) -> u32
+pub fn compare_flat(mem: &[u8], first: usize, second: usize, len: u32) -> u32
     requires { ⌜ (first + len ≤ length (now mem)) × (second + len ≤ length (now mem)) ⌝ }
     ensures { λ r. ⌜ r ≡ flatCompare (now (mem .entry)) first second len ⌝ }
 {

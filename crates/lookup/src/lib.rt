@@ -3,21 +3,28 @@ use pages::Access;
 use pages::Cause;
 use pages::Look;
 ghost use mathlib.Core.Path.{_≡_};
-ghost use Prim.Native.Nat.{_<_};
-ghost use lib.Dec.{eqb, leb};
+ghost use Prim.Native.Nat.{_<_, _+_, _-_, _%_};
+ghost use lib.Dec.{eqb};
 ghost use lib.ListN.{length};
 ghost use Rattle.words.specs.Pick.{both};
-ghost use Rattle.pages.specs.Word.{next, pageOf, dispOf, wordOf, base, bitM, bitE, accessed, written};
+ghost use Rattle.pages.specs.Word.{next, pageOf, dispOf, wordOf, base, size, bitE};
 ghost use Rattle.pages.specs.Tests.{isStore};
-ghost use Rattle.pages.specs.Look.{lookOf};
-ghost use Rattle.pages.specs.Compact.{realOf, ordinary, compact};
+ghost use Rattle.pages.specs.Look.{fewer, lookOf};
 ghost use Rattle.pages.specs.Framed.{framedOf, accessedAt, writtenAt, readByte, writeByte};
+ghost use Rattle.lookup.specs.Barred.{barred, causeOf};
 
 // The address after this one.
 pub fn next_of(a: u32) -> u32
     ensures { λ r. ⌜ r ≡ next a ⌝ }
 {
     ((a as u64 + 1) % 16777216) as u32
+}
+
+// The address so many bytes on.
+pub fn past_of(a: u32, n: u32) -> u32
+    ensures { λ r. ⌜ r ≡ (a + n) % 16777216 ⌝ }
+{
+    ((a as u64 + n as u64) % 16777216) as u32
 }
 
 // The word of a page, by its whole number; 0 for a page that the map lacks.
@@ -44,17 +51,6 @@ fn is_store(access: Access) -> bool
     }
 }
 
-// Test 4: past the end of a page of 2,048 bytes.
-fn beyond(w: u16, a: u32) -> bool
-    ensures { λ r. ⌜ r ≡ both (eqb (bitM w) 1) (leb 2048 (dispOf a)) ⌝ }
-{
-    if w / 1024 % 2 == 1 {
-        2048 <= a % 4096
-    } else {
-        false
-    }
-}
-
 // Test 6: a store into a page that is not to be written.
 fn denied(w: u16, access: Access) -> bool
     ensures { λ r. ⌜ r ≡ both (eqb (bitE w) 1) (isStore access) ⌝ }
@@ -64,6 +60,32 @@ fn denied(w: u16, access: Access) -> bool
     } else {
         false
     }
+}
+
+// Tests 2, 3, 5 and 6, for which the page's word is enough.
+fn is_barred(w: u16, access: Access) -> bool
+    ensures { λ r. ⌜ r ≡ barred w access ⌝ }
+{
+    if w / 8192 % 2 == 0 {
+        return true;
+    }
+    if 0 < w / 64 % 8 {
+        return true;
+    }
+    if w / 4096 % 2 == 0 {
+        return true;
+    }
+    denied(w, access)
+}
+
+// What a page that bars the access is refused with: U is tested first, and the other tests have one cause.
+fn cause_of(w: u16) -> Cause
+    ensures { λ r. ⌜ r ≡ causeOf w ⌝ }
+{
+    if w / 8192 % 2 == 0 {
+        return Cause::PagingQueue;
+    }
+    Cause::PagingError
 }
 
 // Where a page's first byte lies.
@@ -77,47 +99,47 @@ fn base_of(w: u16) -> usize
     f
 }
 
-// U and S set, M, H and X reset, and for a store E reset too.
-fn is_ordinary(w: u16, access: Access) -> bool
-    ensures { λ r. ⌜ r ≡ ordinary w access ⌝ }
-{
-    if w / 4096 % 4 != 3 {
-        return false;
-    }
-    if w / 64 % 32 != 0 {
-        return false;
-    }
-    !denied(w, access)
+// Where a page's first byte lies, and how many of its bytes there are from an address on; none past its end.
+struct Rest {
+    base: usize,
+    left: u32,
 }
 
-// Whether a field lies whole in one ordinary page, and in a memory of n bytes: then it needs no byte-by-byte look-up.
-pub fn is_compact(map: &[u16], n: usize, access: Access, a: u32, len: u32) -> bool
-    ensures { λ r. ⌜ r ≡ compact (now (map .entry)) n access a len ⌝ }
+// One test for both, and the commoner kind of page first: the compiler then makes no more of it than of a page that is always 4,096 bytes.
+fn rest_of(w: u16, a: u32) -> Rest
+    ensures { λ r. ⌜ (r .base ≡ base w) × (r .left ≡ size w - dispOf a) × (r .base < 262144) ⌝ }
 {
-    if len == 0 {
-        return false;
+    let d = a % 4096;
+    if w / 1024 % 2 == 0 {
+        return Rest {
+            base: (w % 64) as usize * 4096,
+            left: 4096 - d,
+        };
     }
-    if 2097152 <= a {
-        return false;
+    if 2048 <= d {
+        return Rest {
+            base: base_of(w),
+            left: 0,
+        };
     }
-    if 4096 - a % 4096 < len {
-        return false;
+    Rest {
+        base: base_of(w),
+        left: 2048 - d,
     }
-    let w = word_for(map, a);
-    if is_ordinary(w, access) {
-        return base_of(w) + (a % 4096) as usize + len as usize <= n;
-    }
-    false
 }
 
-// Where an address lies in memory, if its page is there.
-pub fn real_at(map: &[u16], a: u32) -> usize
-    ensures { λ r. ⌜ (r ≡ realOf (now (map .entry)) a) × (r < 266240) ⌝ }
+// The smaller of two numbers.
+pub fn fewer_of(x: u32, y: usize) -> u32
+    ensures { λ r. ⌜ r ≡ fewer x y ⌝ }
 {
-    base_of(word_for(map, a)) + (a % 4096) as usize
+    if y < x as usize {
+        return y as u32;
+    }
+    x
 }
 
-// A byte's look-up in a memory of n bytes: document 01's tests 1 to 7, in order.
+// A byte's look-up in a memory of n bytes: document 01's tests 1 to 7, and how far it reaches. Tests 3 to 6 have one cause, so that the
+// fourth may come last of them.
 pub fn look_up(map: &[u16], n: usize, access: Access, a: u32) -> Look
     ensures { λ r. ⌜ r ≡ lookOf (now (map .entry)) n access a ⌝ }
 {
@@ -125,26 +147,18 @@ pub fn look_up(map: &[u16], n: usize, access: Access, a: u32) -> Look
         return Look::Refused(Cause::Addressing, a);
     }
     let w = word_for(map, a);
-    if w / 8192 % 2 == 0 {
-        return Look::Refused(Cause::PagingQueue, a);
+    if is_barred(w, access) {
+        return Look::Refused(cause_of(w), a);
     }
-    if 0 < w / 64 % 8 {
+    let rest = rest_of(w, a);
+    if rest.left == 0 {
         return Look::Refused(Cause::PagingError, a);
     }
-    if beyond(w, a) {
-        return Look::Refused(Cause::PagingError, a);
+    let r = rest.base + (a % 4096) as usize;
+    if n <= r {
+        return Look::Refused(Cause::Addressing, a);
     }
-    if w / 4096 % 2 == 0 {
-        return Look::Refused(Cause::PagingError, a);
-    }
-    if denied(w, access) {
-        return Look::Refused(Cause::PagingError, a);
-    }
-    let r = base_of(w) + (a % 4096) as usize;
-    if r < n {
-        return Look::At(r);
-    }
-    Look::Refused(Cause::Addressing, a)
+    Look::At(r, fewer_of(rest.left, n - r))
 }
 
 // G set on the page of a.
@@ -178,7 +192,7 @@ pub fn read_byte(mem: &[u8], map: &[u16], a: u32) -> u8
     ensures { λ r. ⌜ r ≡ readByte (framedOf (now (mem .entry)) (now (map .entry))) a ⌝ }
 {
     let found = look_up(map, mem.len(), Access::Load, a);
-    let Look::At(r) = found else {
+    let Look::At(r, _) = found else {
         return 0;
     };
     mem[r]
@@ -189,7 +203,7 @@ pub fn write_byte(mem: &mut [u8], map: &mut [u16], a: u32, v: u8)
     ensures { λ _. ⌜ framedOf (now (mem .exit)) (now (map .exit)) ≡ writeByte (framedOf (now (mem .entry)) (now (map .entry))) a v ⌝ }
 {
     let found = look_up(map, mem.len(), Access::Store, a);
-    let Look::At(r) = found else {
+    let Look::At(r, _) = found else {
         return;
     };
     mem[r] = v;

@@ -12,11 +12,12 @@ use Rattle.words.specs.Codes.{signCode, compareSigned, zeroCode}
 use Rattle.words.specs.Combine.{signedResult, carried, combineOf, shiftedLeft}
 use Rattle.words.specs.Wide.{productOf, quotientOf, remainderOf, pairOf}
 use Rattle.words.specs.SignedShifts.{signBit, leftward, rightward, shiftedOf}
-use Rattle.pages.specs.declared.Access.the-variants.{Load}
+use Rattle.pages.specs.declared.Access.{Access}
+use Rattle.pages.specs.declared.Access.the-variants.{Fetch, Load, Store}
 use Rattle.pages.specs.declared.Look.{Look}
-use Rattle.pages.specs.Word.{bitU, bitS, bitE, bitM, bitH, bitsX, frame, pageOf, dispOf, next, base, real, wordOf, accessed, written}
+use Rattle.pages.specs.Word.{bitU, bitS, bitE, bitM, bitH, bitsX, frame, pageOf, dispOf, next, base, size, real, wordOf, accessed, written}
 use Rattle.pages.specs.Tests as tests
-use Rattle.pages.specs.Look.{lookSays, lookOf}
+use Rattle.pages.specs.Look.{lookSays, reach, lookOf}
 use Rattle.pages.specs.Framed.{accessedAt, writtenAt, readByte, writeByte}
 use Rattle.code.specs.Table as code
 use Rattle.machine.specs.Prog.{interp}
@@ -36,7 +37,7 @@ use Rattle.machine.specs.Machine.{Given, Outcome, given, proper, stepOut
 unfoldable computes : Unit {0}
 unfolding same signed kept overflows spread signCode compareSigned zeroCode signedResult carried combineOf shiftedLeft
     productOf quotientOf remainderOf pairOf signBit leftward rightward shiftedOf
-    bitU bitS bitE bitM bitH bitsX frame pageOf dispOf next base real wordOf accessed written tests.sixTests tests.tests lookOf
+    bitU bitS bitE bitM bitH bitsX frame pageOf dispOf next base size real wordOf accessed written tests.sixTests tests.tests reach lookOf
     accessedAt writtenAt readByte writeByte code.table code.actionOf
     interp run looks gets puts moves loading storing halfword reg ahead part address chosen link lessOne branch
     pair intoPair rr taken rx rs shiftedWord shiftedPair ss act step proper stepOutcome runOutcome
@@ -86,13 +87,16 @@ overPages place bytes words regs pc = given (laid 65536 (12288 + place) bytes) (
 abbrev marks : Outcome → List ℕ
 marks o = o .reply .number ∷ o .reply .place ∷ o .reply .count ∷ o .reply .pc ∷ take 4 (drop 10 (o .map))
 
--- a look-up's number and its real address, or the place of its refusal
+-- a look-up's number, its real address and its reach, or the place of its refusal
 abbrev found : Look → List ℕ
-found l = lookSays l .number ∷ lookSays l .values ∷ []
+found l = lookSays l .number ∷ lookSays l .values
 
--- a load's look-up in memory of 65,536 bytes, with one page word
+-- a look-up in a memory of n bytes, with one page word; a load's in one of 65,536
+abbrev lookedFor : Access → ℕ → ℕ → ℕ → ℕ → List ℕ
+lookedFor acc n page word a = found (lookOf (laid 512 page (word ∷ [])) n acc a)
+
 abbrev looked : ℕ → ℕ → ℕ → List ℕ
-looked page word a = found (lookOf (laid 512 page (word ∷ [])) 65536 Load a)
+looked = lookedFor Load 65536
 
 record Case : Type 0 where
   answer : List ℕ
@@ -109,10 +113,10 @@ starred =
     ∷ case (seen 10 (runOutcome 1 (whole 10 0x3003))) (7 ∷ 0 ∷ 1 ∷ 0xa004 ∷ 0 ∷ 5 ∷ 0x7003 ∷ [])
     ∷ case (seen 10 (runOutcome 2 (whole 10 0x3003))) (5 ∷ 0xa004 ∷ 1 ∷ 0xa004 ∷ 0 ∷ 5 ∷ 0x7003 ∷ [])
     -- 3, 4: word 3403, displacement 2,047 and 2,048
-    ∷ case (looked 10 0x3403 0xa7ff) (0 ∷ 14335 ∷ [])
+    ∷ case (looked 10 0x3403 0xa7ff) (0 ∷ 14335 ∷ 1 ∷ [])
     ∷ case (looked 10 0x3403 0xa800) (4 ∷ 0xa800 ∷ [])
     -- 5: word 3603, displacement 0
-    ∷ case (looked 10 0x3603 0xa000) (0 ∷ 14336 ∷ [])
+    ∷ case (looked 10 0x3603 0xa000) (0 ∷ 14336 ∷ 2048 ∷ [])
     -- 6, 7: word 3803: L 1,8(2) and ST 1,8(2)
     ∷ case (seen 10 (doing 0x3803 (0x58 ∷ 0x10 ∷ 0x20 ∷ 0x08 ∷ 0 ∷ 0 ∷ 0 ∷ 0 ∷ 0x12 ∷ 0x34 ∷ 0x56 ∷ 0x78 ∷ []) (0 ∷ 0xa000 ∷ [])))
     (0 ∷ 0 ∷ 1 ∷ 0xa004 ∷ 0 ∷ 0x12345678 ∷ 0x7803 ∷ [])
@@ -138,7 +142,7 @@ unstarred =
     case (seen 10 (stepOutcome (whole 10 0x2003))) (4 ∷ 0xa000 ∷ 0 ∷ 0xa000 ∷ 0 ∷ 0 ∷ 0x2003 ∷ [])
     ∷ case (seen 10 (stepOutcome (whole 10 0x3043))) (4 ∷ 0xa000 ∷ 0 ∷ 0xa000 ∷ 0 ∷ 0 ∷ 0x3043 ∷ [])
     -- 16, 17: 1FFFFF is in page 511; 200000
-    ∷ case (looked 511 0x3003 0x1fffff) (0 ∷ 16383 ∷ [])
+    ∷ case (looked 511 0x3003 0x1fffff) (0 ∷ 16383 ∷ 1 ∷ [])
     ∷ case (looked 511 0x3003 0x200000) (1 ∷ 0x200000 ∷ [])
     -- 18: LA at 00AFFE, page 11 absent
     ∷ case (seen 10 (stepOutcome (given (laid 65536 16382 (0x41 ∷ 0x10 ∷ [])) (laid 512 10 (0x3003 ∷ [])) (laid 16 1 []) 0xaffe 0 0)))
@@ -254,8 +258,39 @@ ofMarks =
     mvc : List ℕ
     mvc = 0xd2 ∷ 0x00 ∷ 0x10 ∷ 0x00 ∷ 0x20 ∷ 0x00 ∷ []
 
+-- E5: how far a look-up reaches
+abbrev ofReach : List Case
+ofReach =
+    -- 55 to 58: word 3003, displacement 0, 2,047, 2,048 and 4,095
+    case (looked 10 0x3003 0xa000) (0 ∷ 12288 ∷ 4096 ∷ [])
+    ∷ case (looked 10 0x3003 0xa7ff) (0 ∷ 14335 ∷ 2049 ∷ [])
+    ∷ case (looked 10 0x3003 0xa800) (0 ∷ 14336 ∷ 2048 ∷ [])
+    ∷ case (looked 10 0x3003 0xafff) (0 ∷ 16383 ∷ 1 ∷ [])
+    -- 59, 60: word 3403, displacement 0 and 4,095 (2,047 and 2,048 are 3 and 4)
+    ∷ case (looked 10 0x3403 0xa000) (0 ∷ 12288 ∷ 2048 ∷ [])
+    ∷ case (looked 10 0x3403 0xafff) (4 ∷ 0xafff ∷ [])
+    -- 61, 62: word 3603, displacement 2,047 and 2,048 (0 is 5)
+    ∷ case (looked 10 0x3603 0xa7ff) (0 ∷ 16383 ∷ 1 ∷ [])
+    ∷ case (looked 10 0x3603 0xa800) (4 ∷ 0xa800 ∷ [])
+    -- 63: word 3203: H is ignored when M is reset
+    ∷ case (looked 10 0x3203 0xa000) (0 ∷ 12288 ∷ 4096 ∷ [])
+    -- 64: memory's last byte is the page's last
+    ∷ case (looked 10 0x300f 0xafff) (0 ∷ 65535 ∷ 1 ∷ [])
+    -- 65 to 68: memory ends within the page: two bytes before its end, at its last byte, behind it; and within an upper half
+    ∷ case (lookedFor Load 61450 10 0x300f 0xa008) (0 ∷ 61448 ∷ 2 ∷ [])
+    ∷ case (lookedFor Load 61450 10 0x300f 0xa009) (0 ∷ 61449 ∷ 1 ∷ [])
+    ∷ case (lookedFor Load 61450 10 0x300f 0xa00a) (1 ∷ 0xa00a ∷ [])
+    ∷ case (lookedFor Load 63500 10 0x360f 0xa000) (0 ∷ 63488 ∷ 12 ∷ [])
+    -- 69 to 71: word 3803: fetched from and loaded from to the page's end, not stored to
+    ∷ case (lookedFor Fetch 65536 10 0x3803 0xa010) (0 ∷ 12304 ∷ 4080 ∷ [])
+    ∷ case (lookedFor Load 65536 10 0x3803 0xa010) (0 ∷ 12304 ∷ 4080 ∷ [])
+    ∷ case (lookedFor Store 65536 10 0x3803 0xa010) (4 ∷ 0xa010 ∷ [])
+    -- 72: page 511, its first byte (its last, and the address behind it, stand among the checks above)
+    ∷ case (looked 511 0x3003 0x1ff000) (0 ∷ 12288 ∷ 4096 ∷ [])
+    ∷ []
+
 abbrev cases : List Case
-cases = starred ++ unstarred ++ beside ++ ofPairs ++ ofSingles ++ ofMarks
+cases = starred ++ unstarred ++ beside ++ ofPairs ++ ofSingles ++ ofMarks ++ ofReach
 
 -- the places, from n on, of the cases whose answer is not the expected one
 abbrev failing : ℕ → List Case → List ℕ

@@ -40,7 +40,7 @@ unfolding writeByte
 wrote-noted s a b v = ap (writeAt (noted s a) b v) (blind s a Store b) ∙ at-look (lookIn s Store b)
   where
     at-look : (l : Look) → writeAt (noted s a) b v l ≡ noted (writeAt s b v l) a
-    at-look (At r) = ap (framedOf (set (s .mem) r v)) (written-noted (s .map) a b)
+    at-look (At r k) = ap (framedOf (set (s .mem) r v)) (written-noted (s .map) a b)
     at-look (Refused c p) = refl
 
 -- the store that a program leaves, changed

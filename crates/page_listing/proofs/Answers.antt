@@ -1,8 +1,8 @@
 -- A page's answer, by what the code has in hand where it gives it.
-use mathlib.Core.Path.{_≡_, ap, _∙_}
+use mathlib.Core.Path.{_≡_, ap, sym, _∙_}
 use mathlib.Core.List.{List}
-use Prim.Native.Nat.{ℕ, _-_, _≤_, _<_}
-use native.Mathlib.Nat.{sub-zero}
+use Prim.Native.Nat.{ℕ, _+_, _-_, _≤_, _<_}
+use native.Mathlib.Omega.{arith}
 use lib.ListN.{length, take, drop}
 use borrow.Author.Tests.{lt-ltb, le-ltb}
 use Rattle.pages.specs.declared.Access.the-variants.{Load}
@@ -14,14 +14,15 @@ use Rattle.pages.specs.Look.{lookOf}
 use Rattle.lines.specs.declared.Listed.{Listed}
 use Rattle.lines.specs.Listing.{answered, listed}
 use Rattle.page_listing.specs.declared.PageListed.{PageListed}
-use Rattle.page_listing.specs.Page.{firstOf, pageBytes, PageAnswer, pageAnswered, ofPage, pageListed}
+use Rattle.page_listing.specs.Page.{firstOf, PageAnswer, pageAnswered, ofPage, pageListed}
+use Rattle.page_listing.proofs.OpenPage.{page-reached}
 
--- a listing of what was copied
-pub of-copy : (told : Listed) (room bytes out out′ : List ℕ) (n start : ℕ)
-    → take n room ≡ bytes → answered told out′ ≡ listed (take (n - 0) (drop 0 room)) start out
-    → ofPage (answered told out′) ≡ ofPage (listed bytes start out)
-of-copy told room bytes out out′ n start e h =
-    ap ofPage (h ∙ ap (λ (code : List ℕ). listed code start out) (ap (λ (k : ℕ). take k room) (sub-zero n) ∙ e))
+-- a listing of a stretch of memory
+pub of-stretch : (told : Listed) (mem out out′ : List ℕ) (r k start : ℕ) → answered told out′ ≡ listed (take (r + k - r) (drop r mem)) start out
+    → ofPage (answered told out′) ≡ ofPage (listed (take k (drop r mem)) start out)
+of-stretch told mem out out′ r k start h =
+    let e : r + k - r ≡ k = omega arith in
+    ap ofPage (h ∙ ap (λ (n : ℕ). listed (take n (drop r mem)) start out) e)
 
 module _ (mem map out : List ℕ) (page : ℕ) where
   pub no-page : (r : PageListed) → 512 ≤ page → r ≡ record { number = 6; place = 0; lines = 0; next = 0; written = 0 }
@@ -30,10 +31,11 @@ module _ (mem map out : List ℕ) (page : ℕ) where
   no-page r h e = rw (le-ltb page 512 h) (ap (λ (p : PageListed). pageAnswered p out) e)
 
   module _ (h : page < 512) (look : Look) (e : look ≡ lookOf map (length mem) Load (firstOf page)) where
-    pub first-found : (i : ℕ) (answer : PageAnswer) → look ≡ At i → answer ≡ ofPage (listed (pageBytes mem map page) (firstOf page) out)
+    pub first-found : (i k : ℕ) (answer : PageAnswer) → look ≡ At i k → answer ≡ ofPage (listed (take k (drop i mem)) (firstOf page) out)
         → answer ≡ pageListed mem map page out
     unfolding pageListed
-    first-found i answer f a = rw (lt-ltb page 512 h, ← e, f) a
+    first-found i k answer f a =
+        rw (lt-ltb page 512 h, ← e, f) (a ∙ ap (λ (bs : List ℕ). ofPage (listed bs (firstOf page) out)) (sym (page-reached mem map page h i k (sym e ∙ f))))
 
     pub first-refused : (c : Cause) (p n : ℕ) (r : PageListed) → look ≡ Refused c p → n ≡ numberOf c
         → r ≡ record { number = n; place = p; lines = 0; next = 0; written = 0 }

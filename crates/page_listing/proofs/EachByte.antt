@@ -28,8 +28,8 @@ module _ (mem map : List ℕ) where
   one-finds : (a : ℕ) (rest : List ℕ) → ((d : ℕ) → d < length rest → Finds (a + 1 + d) (getD rest d 0))
       → (l : Look) → look a ≡ l → (d : ℕ) → d < length (foundIn mem l rest) → Finds (a + d) (getD (foundIn mem l rest) d 0)
   one-finds a rest f (Refused c p) e d h = absurd (omega arith)
-  one-finds a rest f (At r) e zero h = rw (add-zero a, e) (refl, refl)
-  one-finds a rest f (At r) e (suc d) h =
+  one-finds a rest f (At r k) e zero h = rw (add-zero a, e) (refl, refl)
+  one-finds a rest f (At r j) e (suc d) h =
       let k : a + suc d ≡ a + 1 + d = omega arith in
       rw k (f d (omega arith))
 

@@ -1,5 +1,4 @@
 -- What the proofs of page_listing share, and the laws of a page's bytes.
-pub mod Copied
 pub mod Answers
 pub mod EachByte
 pub mod OpenPage

@@ -46,8 +46,8 @@ few-characters = by-lines (λ a code. Bytes code → length (texts (listing a co
 -- a page's bytes are bytes, 4,096 at most
 module _ (mem map : List ℕ) (small : Bytes mem) where
   one-small : (l : Look) (behind : List ℕ) → Bytes behind → Bytes (foundIn mem l behind)
-  one-small (At r) behind h zero = small r
-  one-small (At r) behind h (suc i) = h i
+  one-small (At r k) behind h zero = small r
+  one-small (At r k) behind h (suc i) = h i
   one-small (Refused c a) behind h i = omega arith
 
   from-small : (n a : ℕ) → Bytes (bytesFrom mem map n a)
@@ -56,7 +56,7 @@ module _ (mem map : List ℕ) (small : Bytes mem) where
   from-small (suc n) a i = one-small (lookOf map (length mem) Load a) (bytesFrom mem map n (a + 1)) (from-small n (a + 1)) i
 
   one-few : (l : Look) (behind : List ℕ) (n : ℕ) → length behind ≤ n → length (foundIn mem l behind) ≤ suc n
-  one-few (At r) behind n h = omega arith
+  one-few (At r k) behind n h = omega arith
   one-few (Refused c a) behind n h = omega arith
 
   from-few : (n a : ℕ) → length (bytesFrom mem map n a) ≤ n
@@ -71,8 +71,8 @@ module _ (mem map : List ℕ) (small : Bytes mem) where
         all-fit (length out) (listing (firstOf page) (bytesFrom mem map 4096 (firstOf page)))
         (omega (arith, few-characters (firstOf page) (bytesFrom mem map 4096 (firstOf page)) (from-small 4096 (firstOf page)), from-few 4096 (firstOf page)))
 
-    pub whole-page : (r : ℕ) → lookOf map (length mem) Load (firstOf page) ≡ At r
+    pub whole-page : (r j : ℕ) → lookOf map (length mem) Load (firstOf page) ≡ At r j
         → pageListed mem map page out ≡ ofPage (putOut 0 (listing (firstOf page) (pageBytes mem map page)) out)
     unfolding pageListed listed listedFrom
-    whole-page r e =
+    whole-page r j e =
         rw (lt-ltb page 512 h, e, lt-ltb (firstOf page) (2 ^ 24) (omega arith), wrapped-same (firstOf page) (omega arith), page-fits)

@@ -14,7 +14,7 @@ use Rattle.page_listing.specs.declared.PageListed.{PageListed}
 
 -- a byte that the look-up found, and the bytes behind it; nothing where it was refused
 abbrev pub foundIn : List ℕ → Look → List ℕ → List ℕ
-foundIn mem (At r) behind = getD mem r 0 ∷ behind
+foundIn mem (At r k) behind = getD mem r 0 ∷ behind
 foundIn mem (Refused c a) behind = []
 
 -- the bytes that the look-up finds from an address on, n at most, up to the first that it refuses
@@ -54,7 +54,7 @@ refusedAt number place out =
 
 -- by the look-up of the page's first byte
 abbrev pub listedAs : Look → Answer → List ℕ → PageAnswer
-listedAs (At r) answer out = ofPage answer
+listedAs (At r k) answer out = ofPage answer
 listedAs (Refused c a) answer out = refusedAt (numberOf c) a out
 
 -- the machine has pages 0 to 511; any other number gives 6

@@ -1,13 +1,13 @@
-// The listing of a page of a machine: its bytes are copied as the look-up finds them, and listed at the page's own address.
+// The listing of a page of a machine: its bytes as the look-up finds them, listed at the page's own address.
 use pages::Access;
 use pages::Cause;
 use pages::Look;
 ghost use mathlib.Core.Path.{_≡_};
-ghost use Prim.Native.Nat.{_≤_, _<_};
-ghost use lib.ListN.{length, take};
+ghost use Prim.Native.Nat.{_≤_, _<_, _+_};
+ghost use lib.ListN.{length, take, drop};
 ghost use Rattle.pages.specs.Tests.{numberOf};
 ghost use Rattle.lines.specs.Listing.{listed};
-ghost use Rattle.page_listing.specs.Page.{firstOf, pageBytes, pageAnswered, ofPage, refusedAt, pageListed};
+ghost use Rattle.page_listing.specs.Page.{firstOf, pageAnswered, ofPage, refusedAt, pageListed};
 
 // The answer: that of a listing, and where a byte was refused.
 pub struct PageListed {
@@ -41,32 +41,12 @@ fn refused(number: u32, place: u32) -> PageListed
     }
 }
 
-// Copies a page's bytes to the front of a room for a whole page; how many there are.
-fn copy_page(mem: &[u8], map: &[u16], page: u32, room: &mut [u8]) -> usize
-    requires { ⌜ (page < 512) × (length (now room) ≡ 4096) ⌝ }
-    ensures { λ r. ⌜ (r ≤ 4096) × (take r (now (room .exit)) ≡ pageBytes (now (mem .entry)) (now (map .entry)) page) ⌝ }
+// The listing of a page that the look-up of its first byte reaches: its bytes lie together, and are listed where they lie.
+fn list_found(mem: &[u8], page: u32, at: usize, reach: u32, out: &mut [u8]) -> PageListed
+    requires { ⌜ (page < 512) × (at + reach ≤ length (now mem)) ⌝ }
+    ensures { λ r. ⌜ pageAnswered r (now (out .exit)) ≡ ofPage (listed (take reach (drop at (now (mem .entry)))) (firstOf page) (now (out .entry))) ⌝ }
 {
-    let first = page * 4096;
-    let mut n: usize = 0;
-    while n < 4096 {
-        let found = lookup::look_up(map, mem.len(), Access::Load, first + n as u32);
-        let Look::At(r) = found else {
-            return n;
-        };
-        room[n] = mem[r];
-        n += 1;
-    }
-    n
-}
-
-// The listing of a page whose first byte is found.
-fn list_found(mem: &[u8], map: &[u16], page: u32, out: &mut [u8]) -> PageListed
-    requires { ⌜ page < 512 ⌝ }
-    ensures { λ r. ⌜ pageAnswered r (now (out .exit)) ≡ ofPage (listed (pageBytes (now (mem .entry)) (now (map .entry)) page) (firstOf page) (now (out .entry))) ⌝ }
-{
-    let mut room = [0u8; 4096];
-    let n = copy_page(mem, map, page, &mut room);
-    let told = listing::list(&room[0..n], page * 4096, out);
+    let told = listing::list(&mem[at..at + reach as usize], page * 4096, out);
     PageListed {
         number: told.number,
         place: 0,
@@ -85,7 +65,7 @@ pub fn list_page(mem: &[u8], map: &[u16], page: u32, out: &mut [u8]) -> PageList
     }
     let found = lookup::look_up(map, mem.len(), Access::Load, page * 4096);
     match found {
-        Look::At(_) => list_found(mem, map, page, out),
+        Look::At(r, reach) => list_found(mem, page, r, reach, out),
         Look::Refused(cause, place) => refused(number_of(cause), place),
     }
 }

@@ -1,5 +1,5 @@
 pub mod LookLaws
+pub mod ReachLaws
 pub mod StoreLaws
 pub mod Marks
-pub mod CompactLaws
 pub mod SaysOnce

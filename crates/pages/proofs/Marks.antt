@@ -10,9 +10,9 @@ use mathlib.Core.List.{List}
 use lib.ListN.{length, getD, set, List·getD-eq-default}
 use lib.Seq.{getD-set-same, getD-set-other, set-out, set-set, set-comm, set-getD}
 use Rattle.pages.specs.declared.Access.{Access}
-use Rattle.pages.specs.Word.{bitU, bitS, bitE, bitM, bitH, bitsX, frame, base, real, wordOf, pageOf, dispOf, accessed, written}
+use Rattle.pages.specs.Word.{bitU, bitS, bitE, bitM, bitH, bitsX, frame, base, size, real, wordOf, pageOf, dispOf, accessed, written}
 use Rattle.pages.specs.Tests.{tests, sixTests}
-use Rattle.pages.specs.Look.{lookOf, testSeven}
+use Rattle.pages.specs.Look.{lookOf, lookWith, reach}
 use Rattle.pages.specs.Framed.{accessedAt, writtenAt}
 
 -- a change of a word that leaves all but W and G
@@ -55,9 +55,17 @@ module _ (f : ℕ → ℕ) (q : Quiet f) where
   unfolding base
   base-quiet w = rw (q .p w, q .m w, q .h w)
 
-  pub real-quiet : (d w : ℕ) → real (f w) d ≡ real w d
+  real-quiet : (d w : ℕ) → real (f w) d ≡ real w d
   unfolding real
   real-quiet d w = rw (base-quiet w)
+
+  reach-quiet : (d n w : ℕ) → reach (f w) d n ≡ reach w d n
+  unfolding reach size
+  reach-quiet d n w = rw (q .m w, real-quiet d w)
+
+  -- the look-up with a page's word
+  pub word-quiet : (n : ℕ) (acc : Access) (a w : ℕ) → lookWith (f w) n acc a ≡ lookWith w n acc a
+  word-quiet n acc a w = rw (tests-quiet acc a w, real-quiet (dispOf a) w, reach-quiet (dispOf a) n w)
 
 -- the map with the word of page p changed by f
 abbrev pub changed : (ℕ → ℕ) → ℕ → List ℕ → List ℕ
@@ -87,8 +95,7 @@ pub look-quiet : (f : ℕ → ℕ) → Quiet f → (map : List ℕ) (p n : ℕ) 
     → lookOf (changed f p map) n acc a ≡ lookOf map n acc a
 unfolding lookOf
 look-quiet f q map p n acc a =
-    rw
-    (changed-keeps f (λ (w : ℕ). tests acc a w) (tests-quiet f q acc a) map p (pageOf a), changed-keeps f (λ (w : ℕ). real w (dispOf a)) (real-quiet f q (dispOf a)) map p (pageOf a))
+    changed-keeps f (λ (w : ℕ). lookWith w n acc a) (word-quiet f q n acc a) map p (pageOf a)
 
 -- two changes that commute on a word commute on the map
 pub changed-comm : (f g : ℕ → ℕ) → ((w : ℕ) → f (g w) ≡ g (f w)) → (p r : ℕ) (map : List ℕ)

@@ -2,6 +2,8 @@
 use Prim.Native.Nat.{ℕ}
 use native.Mathlib.Omega.{arith}
 use mathlib.Core.Path.{_≡_, refl, sym, _∙_, ap}
+use mathlib.Core.List.{List, [], _∷_}
+use lib.ListN.{getD}
 use Rattle.words.specs.Said.{Said}
 use Rattle.pages.specs.declared.Cause.{Cause}
 use Rattle.pages.specs.declared.Cause.the-variants.{Addressing, PagingQueue, PagingError}
@@ -28,9 +30,11 @@ caused PagingQueue e = omega (arith, e)
 caused PagingError e = omega (arith, e)
 
 pub look-once : (l m : Look) → lookSays l ≡ lookSays m → l ≡ m
-look-once (At r) (At q) e = ap At (ap (λ (s : Said ℕ). s .values) e)
-look-once (At r) (Refused d b) e = absurd (caused d (sym (ap (λ (s : Said ℕ). s .number) e)))
-look-once (Refused c a) (At q) e = absurd (caused c (ap (λ (s : Said ℕ). s .number) e))
+look-once (At r k) (At q j) e =
+    ap (λ (x : ℕ). At x k) (ap (λ (s : Said (List ℕ)). getD (s .values) 0 0) e)
+    ∙ ap (At q) (ap (λ (s : Said (List ℕ)). getD (s .values) 1 0) e)
+look-once (At r k) (Refused d b) e = absurd (caused d (sym (ap (λ (s : Said (List ℕ)). s .number) e)))
+look-once (Refused c a) (At q j) e = absurd (caused c (ap (λ (s : Said (List ℕ)). s .number) e))
 look-once (Refused c a) (Refused d b) e =
-    ap (λ (x : Cause). Refused x a) (cause-once c d (ap (λ (s : Said ℕ). s .number) e))
-    ∙ ap (Refused d) (ap (λ (s : Said ℕ). s .values) e)
+    ap (λ (x : Cause). Refused x a) (cause-once c d (ap (λ (s : Said (List ℕ)). s .number) e))
+    ∙ ap (Refused d) (ap (λ (s : Said (List ℕ)). getD (s .values) 0 0) e)

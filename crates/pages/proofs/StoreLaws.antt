@@ -16,16 +16,16 @@ module _ (mem map : List ℕ) (a : ℕ) (found : Look) where
     unfolding readByte
     read-refused c p h = rw (← e, h)
 
-    pub read-found : (r : ℕ) → found ≡ At r → getD mem r 0 ≡ readByte (framedOf mem map) a
+    pub read-found : (r k : ℕ) → found ≡ At r k → getD mem r 0 ≡ readByte (framedOf mem map) a
     unfolding readByte
-    read-found r h = rw (← e, h)
+    read-found r k h = rw (← e, h)
 
   module _ (v : ℕ) (e : found ≡ lookOf map (length mem) Store a) where
     pub write-refused : (c : Cause) (p : ℕ) → found ≡ Refused c p → framedOf mem map ≡ writeByte (framedOf mem map) a v
     unfolding writeByte
     write-refused c p h = rw (← e, h)
 
-    pub write-found : (r : ℕ) (map′ : List ℕ) → found ≡ At r → map′ ≡ writtenAt map a
+    pub write-found : (r k : ℕ) (map′ : List ℕ) → found ≡ At r k → map′ ≡ writtenAt map a
         → framedOf (set mem r v) map′ ≡ writeByte (framedOf mem map) a v
     unfolding writeByte
-    write-found r map′ h m = rw (← e, h, ← m)
+    write-found r k map′ h m = rw (← e, h, ← m)

@@ -32,7 +32,7 @@ noted s a = framedOf (s .mem) (accessedAt (s .map) a)
 
 -- the byte at a; 0 where the look-up refuses (no program reads such a byte: see demand/proofs/LookedUpFirst)
 abbrev pub readAt : List ℕ → Look → ℕ
-readAt mem (At r) = getD mem r 0
+readAt mem (At r k) = getD mem r 0
 readAt mem (Refused c a) = 0
 
 unfoldable pub readByte : Framed → ℕ → ℕ
@@ -40,7 +40,7 @@ readByte s a = readAt (s .mem) (lookIn s Load a)
 
 -- a byte stored at a, and W noted; nothing where the look-up refuses
 abbrev pub writeAt : Framed → ℕ → ℕ → Look → Framed
-writeAt s a v (At r) = framedOf (set (s .mem) r v) (writtenAt (s .map) a)
+writeAt s a v (At r k) = framedOf (set (s .mem) r v) (writtenAt (s .map) a)
 writeAt s a v (Refused c b) = s
 
 unfoldable pub writeByte : Framed → ℕ → ℕ → Framed

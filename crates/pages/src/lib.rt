@@ -14,8 +14,8 @@ pub enum Cause {
     PagingError,
 }
 
-// A byte's look-up: its real address, or the cause and the place of the refusal.
+// A byte's look-up: its real address and how far it reaches, or the cause and the place of the refusal.
 pub enum Look {
-    At(usize),
+    At(usize, u32),
     Refused(Cause, u32),
 }

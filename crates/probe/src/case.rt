@@ -1,11 +1,11 @@
 // A case, all numbers big-endian:
 //
-//     kind, 1 byte: 0 a step, 1 a run
+//     kind, 1 byte: 0 a step, 1 a run, 2 a look-up
 //     length of memory, 4 bytes, at most 270,336
 //     number of page words, 2 bytes, at most 600
 //     number of registers, 1 byte, at most 32
 //     page words, 2 bytes each; registers, 4 bytes each
-//     counter, code, mask, budget, 4 bytes each
+//     counter, code, mask, budget, 4 bytes each; of a look-up the address, and 0, 1 or 2 for a fetch, a load or a store
 //     number of pieces of memory, 2 bytes
 //     pieces, each within memory: address, 4 bytes; length, 1 byte; the bytes
 //

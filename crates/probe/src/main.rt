@@ -1,4 +1,4 @@
-// What a sheet cannot show: calls of the engine's entries with lists of any length and numbers of any size. Reads cases from
+// What a sheet cannot show: calls of the engine's entries, and of the look-up, with lists of any length and numbers of any size. Reads cases from
 // standard input (case.rt has their form) and writes each outcome, whole, to standard output (told.rt). The input may end between
 // two cases. Where it ends within one, is not of that form or cannot be read, and where an outcome cannot be written, standard
 // error has a line that says so, and the program ends.
@@ -11,6 +11,8 @@ mod told;
 use case::Head;
 use case::Scalars;
 use machine::Reply;
+use pages::Access;
+use pages::Look;
 use streams::Course;
 
 fn call(mem: &mut [u8], map: &mut [u16], regs: &mut [u32], is_run: bool, s: Scalars) -> Reply {
@@ -20,13 +22,41 @@ fn call(mem: &mut [u8], map: &mut [u16], regs: &mut [u32], is_run: bool, s: Scal
     engine::step(mem, map, regs, s.pc, s.code, s.mask)
 }
 
+// What a look-up's byte is wanted for, by the number in the case.
+fn access_of(number: u32) -> Access {
+    match number {
+        0 => Access::Fetch,
+        1 => Access::Load,
+        _ => Access::Store,
+    }
+}
+
+// A look-up: it changes nothing, and its answer is told whole.
+fn look(map: &[u16], size: usize, s: Scalars) -> Course {
+    if s.code > 2 {
+        return Course::Malformed;
+    }
+    let found = lookup::look_up(map, size, access_of(s.code), s.pc);
+    match found {
+        Look::At(real, reach) => told::write_look(0, real, reach),
+        Look::Refused(cause, place) => told::write_look(
+            actions::number_of(cause),
+            place as usize,
+            0,
+        ),
+    }
+}
+
 // A case whose lists stand: its pieces, and the call.
-fn finish(mem: &mut [u8], map: &mut [u16], regs: &mut [u32], is_run: bool, s: Scalars) -> Course {
+fn finish(mem: &mut [u8], map: &mut [u16], regs: &mut [u32], kind: u32, s: Scalars) -> Course {
     let course = case::take_memory(mem, s.pieces);
     if !streams::is_fine(course) {
         return course;
     }
-    let reply = call(mem, map, regs, is_run, s);
+    if kind == 2 {
+        return look(map, mem.len(), s);
+    }
+    let reply = call(mem, map, regs, kind == 1, s);
     told::write(reply, regs, map, mem)
 }
 
@@ -45,14 +75,14 @@ fn answer(head: Head, bytes: &[u8; 1346]) -> Course
         &mut mem[0..m],
         &mut map[0..w],
         &mut regs[0..r],
-        head.kind == 1,
+        head.kind,
         scalars,
     )
 }
 
 // A case after its head.
 fn answer_to(head: Head) -> Course {
-    if head.kind > 1 {
+    if head.kind > 2 {
         return Course::Malformed;
     }
     if head.mem > 270336 {

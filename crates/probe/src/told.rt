@@ -6,6 +6,10 @@
 //     MAP all page words
 //     MEMORY its checksum
 //
+// and of a look-up one line:
+//
+//     LOOK number, real address or place, reach
+//
 // The functions that put a part of it hand back the place after it; an outcome has room.
 ghost use Prim.Native.Nat.{_<_};
 use machine::Reply;
@@ -74,6 +78,14 @@ fn put_memory(out: &mut [u8], at: usize, mem: &[u8]) -> usize {
     let one = put_all(out, at, b"MEMORY\t");
     let two = put_all(out, one, &text[..k]);
     put(out, two, b'\n')
+}
+
+pub fn write_look(number: u32, place: usize, reach: u32) -> Course {
+    let mut out = [0u8; 64];
+    let one = named(&mut out, 0, b"LOOK", number as usize);
+    let two = put_decimal(&mut out, one, place);
+    let three = last_decimal(&mut out, two, reach as usize);
+    streams::write(&out, three)
 }
 
 pub fn write(r: Reply, regs: &[u32], map: &[u16], mem: &[u8]) -> Course {

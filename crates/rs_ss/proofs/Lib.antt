@@ -1,3 +1,5 @@
 mod RegisterLoops
 mod Multiples
 mod SignedShifts
+pub mod MultiplesReached
+pub mod BothReached

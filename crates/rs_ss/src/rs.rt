@@ -9,11 +9,12 @@ use pages::Access;
 use pages::Look;
 use words::Direction;
 ghost use mathlib.Core.Path.{_≡_};
-ghost use Prim.Native.Nat.{_≤_};
+ghost use Prim.Native.Nat.{_≤_, _+_, _*_};
+ghost use lib.ListN.{length};
 ghost use Rattle.pages.specs.Framed.{framedOf};
 ghost use Rattle.machine.specs.Prog.{done};
 ghost use Rattle.machine.specs.Rs.{rs, rsAddress, howMany, nextReg, nextWord, indexSum, isHigh};
-ghost use Rattle.rs_ss.specs.Multiple.{filled, spilled};
+ghost use Rattle.rs_ss.specs.Multiple.{filled, spilled, filledAt, spilledAt};
 ghost use Rattle.actions.specs.Answered.{cpuOf, told, doing, answersTo};
 
 fn operand_address(regs: &[u32], c: Now, f: RsFields) -> u32
@@ -46,6 +47,7 @@ fn next_word(a: u32) -> u32
     ((a as u64 + 4) % 16777216) as u32
 }
 
+// Word by word, through the look-up: a field over the edge of a page.
 fn fill(regs: &mut [u32], mem: &[u8], map: &[u16], count: u32, first: u8, at: u32)
     ensures { λ _. ⌜ now (regs .exit) ≡ filled (framedOf (now (mem .entry)) (now (map .entry))) count first at (now (regs .entry)) ⌝ }
 {
@@ -76,6 +78,39 @@ fn spill(regs: &[u32], mem: &mut [u8], map: &mut [u16], count: u32, first: u8, a
     }
 }
 
+// By real address: a field that the look-up reached whole.
+fn fill_at(regs: &mut [u32], mem: &[u8], count: u32, first: u8, at: usize)
+    requires { ⌜ at + count * 4 ≤ length (now mem) ⌝ }
+    ensures { λ _. ⌜ now (regs .exit) ≡ filledAt (now (mem .entry)) count first at (now (regs .entry)) ⌝ }
+{
+    let mut r = first;
+    let mut a = at;
+    let mut left = count;
+    while 0 < left {
+        let v = fields::flat::word_of(mem, a);
+        registers::put_reg(regs, r, v);
+        r = next_reg(r);
+        a = a + 4;
+        left = left - 1;
+    }
+}
+
+fn spill_at(regs: &[u32], mem: &mut [u8], count: u32, first: u8, at: usize)
+    requires { ⌜ at + count * 4 ≤ length (now mem) ⌝ }
+    ensures { λ _. ⌜ now (mem .exit) ≡ spilledAt (now (regs .entry)) count first at (now (mem .entry)) ⌝ }
+{
+    let mut r = first;
+    let mut a = at;
+    let mut left = count;
+    while 0 < left {
+        let v = registers::reg(regs, r);
+        fields::flat::put_word(mem, a, v);
+        r = next_reg(r);
+        a = a + 4;
+        left = left - 1;
+    }
+}
+
 // LM.
 fn load_multiple(regs: &mut [u32], mem: &[u8], map: &mut [u16], c: Now, f: RsFields) -> Out
     ensures { λ r. ⌜ told r (now (regs .exit)) c (framedOf (now (mem .entry)) (now (map .exit))) ≡ doing (rs RsAction.LoadMultiple f) (now (regs .entry)) c (framedOf (now (mem .entry)) (now (map .entry))) ⌝ }
@@ -86,12 +121,16 @@ fn load_multiple(regs: &mut [u32], mem: &[u8], map: &mut [u16], c: Now, f: RsFie
     }
     let count = how_many(f);
     let found = fields::look_one(map, mem.len(), Access::Load, at, count * 4);
-    let Look::At(_) = found else {
+    let Look::At(i, reach) = found else {
         return actions::refusal(found);
     };
     fields::note_field(map, at, count * 4);
     let next = registers::ahead_of(regs, c, 4);
-    fill(regs, mem, map, count, f.r1, at);
+    if count * 4 <= reach {
+        fill_at(regs, mem, count, f.r1, i);
+    } else {
+        fill(regs, mem, map, count, f.r1, at);
+    }
     Out::Done(Now {
         pc: next,
         code: c.code,
@@ -109,13 +148,19 @@ fn store_multiple(regs: &[u32], mem: &mut [u8], map: &mut [u16], c: Now, f: RsFi
     }
     let count = how_many(f);
     let found = fields::look_one(map, mem.len(), Access::Store, at, count * 4);
-    let Look::At(_) = found else {
+    let Look::At(i, reach) = found else {
         return actions::refusal(found);
     };
     fields::note_field(map, at, count * 4);
-    spill(regs, mem, map, count, f.r1, at);
+    let next = registers::ahead_of(regs, c, 4);
+    if count * 4 <= reach {
+        spill_at(regs, mem, count, f.r1, i);
+        lookup::note_written(map, at);
+    } else {
+        spill(regs, mem, map, count, f.r1, at);
+    }
     Out::Done(Now {
-        pc: registers::ahead_of(regs, c, 4),
+        pc: next,
         code: c.code,
         mask: c.mask,
     })

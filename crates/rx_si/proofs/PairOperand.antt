@@ -31,9 +31,9 @@ use Rattle.actions.proofs.Executed.{answered, operand-off, operand-stop, operan
 use Rattle.actions.proofs.OnPairs.{odd-pair, even-pair, stop-answers}
 
 -- a word that was found can be read there
-pub word-room : (mem map : List ℕ) (a i : ℕ) (found : Look) → a % 4 ≡ 0 → found ≡ lookOne map (length mem) Load a 4 → found ≡ At i
+pub word-room : (mem map : List ℕ) (a i y : ℕ) (found : Look) → a % 4 ≡ 0 → found ≡ lookOne map (length mem) Load a 4 → found ≡ At i y
     → i + 4 ≤ length mem
-word-room mem map a i found on e ef = found-inside mem map Load a 4 i found e ef (omega arith) (aligned-fits Word a on)
+word-room mem map a i y found on e ef = found-inside mem map Load a 4 i y found e ef (omega arith) (aligned-fits Word a on)
 
 module _ (regs : List ℕ) (c : Now) (mem map : List ℕ) (op : PairOp) (f : RxFields) where
   -- what is made of the operand v
@@ -71,19 +71,19 @@ module _ (regs : List ℕ) (c : Now) (mem map : List ℕ) (op : PairOp) (f : RxF
       pair-unfound out d b eo ef = comes _ (operand-stop regs c mem map 4 a Load 4 _ tt on found e out d b (omega arith) eo ef)
 
       -- b is the operand, found at i, and o the answer for it
-      module _ (i : ℕ) (ef : found ≡ At i) (b : ℕ) (eb : b ≡ flat mem i 4 0) (o : Out) (regs′ : List ℕ) (h : answersTo o regs regs′ (made b)) where
+      module _ (i y : ℕ) (ef : found ≡ At i y) (b : ℕ) (eb : b ≡ flat mem i 4 0) (o : Out) (regs′ : List ℕ) (h : answersTo o regs regs′ (made b)) where
         the-word : (map′ : List ℕ) → map′ ≡ noteField map a 4 → b ≡ readField (framedOf mem map′) a 4 0
-        the-word map′ em = eb ∙ found-read mem map Load a 4 i found e ef (omega arith) (aligned-fits Word a on) map′ em
+        the-word map′ em = eb ∙ found-read mem map Load a 4 i y found e ef (omega arith) (aligned-fits Word a on) map′ em
 
         pub pair-done : (n : Now) (map′ : List ℕ) → o ≡ Done n → map′ ≡ accessedAt map a
             → told o regs′ c (framedOf mem map′) ≡ wanted
         unfolding loading answersTo
         pair-done n map′ eo ea′ =
-            let em = found-note mem map Load a 4 i found e ef (omega arith) (aligned-fits Word a on) map′ ea′ in
+            let em = found-note mem map Load a 4 i y found e ef (omega arith) (aligned-fits Word a on) map′ ea′ in
             let k = rw eo at h in
             rw eo
             (comes _
-            (operand-go regs c mem map 4 a Load 4 _ tt on found e i map′ regs′ _ n ef em
+            (operand-go regs c mem map 4 a Load 4 _ tt on found e i y map′ regs′ _ n ef em
             (loaded regs′ n _ _ a 4 made (k ∙ ap made (the-word map′ em)))))
 
         pub pair-refused : (p q : ℕ) → o ≡ Stop p q → told o regs′ c (framedOf mem map) ≡ wanted
@@ -92,5 +92,5 @@ module _ (regs : List ℕ) (c : Now) (mem map : List ℕ) (op : PairOp) (f : RxF
             let k = rw eo at h in
             rw (eo, k .1)
             (comes _
-            (operand-refused regs c mem map 4 a Load 4 _ tt on found e i (noteField map a 4) p q ef refl
+            (operand-refused regs c mem map 4 a Load 4 _ tt on found e i y (noteField map a 4) p q ef refl
             (loaded-in-vain _ _ a 4 p q made (k .0 ∙ ap made (the-word (noteField map a 4) refl)))))

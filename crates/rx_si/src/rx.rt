@@ -70,8 +70,8 @@ fn load(regs: &mut [u32], mem: &[u8], map: &mut [u16], c: Now, op: Operand, f: R
     if fields::is_off(at, width) {
         return Out::Stop(2, at);
     }
-    let found = fields::look_one(map, mem.len(), Access::Load, at, fields::bytes_of(width));
-    let Look::At(i) = found else {
+    let found = fields::look_operand(map, mem.len(), Access::Load, at, fields::bytes_of(width));
+    let Look::At(i, _) = found else {
         return actions::refusal(found);
     };
     let result = take(mem, op, i, registers::reg(regs, f.r1), c.code);
@@ -93,8 +93,8 @@ fn store(regs: &[u32], mem: &mut [u8], map: &mut [u16], c: Now, width: Width, f:
     if fields::is_off(at, width) {
         return Out::Stop(2, at);
     }
-    let found = fields::look_one(map, mem.len(), Access::Store, at, fields::bytes_of(width));
-    let Look::At(i) = found else {
+    let found = fields::look_operand(map, mem.len(), Access::Store, at, fields::bytes_of(width));
+    let Look::At(i, _) = found else {
         return actions::refusal(found);
     };
     fields::flat::put_field(mem, i, width, registers::reg(regs, f.r1));
@@ -140,8 +140,8 @@ fn pair(regs: &mut [u32], mem: &[u8], map: &mut [u16], c: Now, op: PairOp, f: Rx
     if at % 4 != 0 {
         return Out::Stop(2, at);
     }
-    let found = fields::look_one(map, mem.len(), Access::Load, at, 4);
-    let Look::At(i) = found else {
+    let found = fields::look_operand(map, mem.len(), Access::Load, at, 4);
+    let Look::At(i, _) = found else {
         return actions::refusal(found);
     };
     let out = pairs::work(regs, c, op, f.r1, fields::flat::word_of(mem, i), 4);

@@ -29,8 +29,8 @@ fn compare(regs: &[u32], mem: &[u8], map: &mut [u16], c: Now, f: SiFields) -> Ou
     ensures { λ r. ⌜ told r (now (regs .entry)) c (framedOf (now (mem .entry)) (now (map .exit))) ≡ doing (si SiAction.CompareByte f) (now (regs .entry)) c (framedOf (now (mem .entry)) (now (map .entry))) ⌝ }
 {
     let at = operand_address(regs, c, f);
-    let found = fields::look_one(map, mem.len(), Access::Load, at, 1);
-    let Look::At(i) = found else {
+    let found = lookup::look_up(map, mem.len(), Access::Load, at);
+    let Look::At(i, _) = found else {
         return actions::refusal(found);
     };
     let b = fields::flat::byte_of(mem, i);
@@ -47,8 +47,8 @@ fn test(regs: &[u32], mem: &[u8], map: &mut [u16], c: Now, f: SiFields) -> Out
     ensures { λ r. ⌜ told r (now (regs .entry)) c (framedOf (now (mem .entry)) (now (map .exit))) ≡ doing (si SiAction.TestMask f) (now (regs .entry)) c (framedOf (now (mem .entry)) (now (map .entry))) ⌝ }
 {
     let at = operand_address(regs, c, f);
-    let found = fields::look_one(map, mem.len(), Access::Load, at, 1);
-    let Look::At(i) = found else {
+    let found = lookup::look_up(map, mem.len(), Access::Load, at);
+    let Look::At(i, _) = found else {
         return actions::refusal(found);
     };
     let b = fields::flat::byte_of(mem, i);
@@ -65,8 +65,8 @@ fn bits(regs: &[u32], mem: &mut [u8], map: &mut [u16], c: Now, op: Logic, f: SiF
     ensures { λ r. ⌜ told r (now (regs .entry)) c (framedOf (now (mem .exit)) (now (map .exit))) ≡ doing (si (SiAction.BitsByte op) f) (now (regs .entry)) c (framedOf (now (mem .entry)) (now (map .entry))) ⌝ }
 {
     let at = operand_address(regs, c, f);
-    let found = fields::look_one(map, mem.len(), Access::Store, at, 1);
-    let Look::At(i) = found else {
+    let found = lookup::look_up(map, mem.len(), Access::Store, at);
+    let Look::At(i, _) = found else {
         return actions::refusal(found);
     };
     let v = arithmetic::logic_byte(op, fields::flat::byte_of(mem, i), f.i2);
@@ -85,8 +85,8 @@ fn store(regs: &[u32], mem: &mut [u8], map: &mut [u16], c: Now, f: SiFields) -> 
     ensures { λ r. ⌜ told r (now (regs .entry)) c (framedOf (now (mem .exit)) (now (map .exit))) ≡ doing (si SiAction.MoveByte f) (now (regs .entry)) c (framedOf (now (mem .entry)) (now (map .entry))) ⌝ }
 {
     let at = operand_address(regs, c, f);
-    let found = fields::look_one(map, mem.len(), Access::Store, at, 1);
-    let Look::At(i) = found else {
+    let found = lookup::look_up(map, mem.len(), Access::Store, at);
+    let Look::At(i, _) = found else {
         return actions::refusal(found);
     };
     fields::flat::put_byte(mem, i, f.i2);

@@ -12,9 +12,9 @@ use lib.Dec.{leb}
 use lib.ListN.{getD, replicate}
 use lib.Seq.{sets}
 use Rattle.words.specs.Pick.{pick, both}
-use Rattle.pages.specs.Word.{bitU, bitS, bitE, bitM, bitH, bitsX, frame, pageOf, dispOf, next, base, real, wordOf, accessed}
+use Rattle.pages.specs.Word.{bitU, bitS, bitE, bitM, bitH, bitsX, frame, pageOf, dispOf, next, base, size, real, wordOf, accessed}
 use Rattle.pages.specs.Tests as tests
-use Rattle.pages.specs.Look.{lookOf}
+use Rattle.pages.specs.Look.{reach, lookOf}
 use Rattle.pages.specs.Framed.{Framed, accessedAt, readByte}
 use Rattle.code.specs.Table as code
 use Rattle.machine.specs.Prog.{interp}
@@ -28,7 +28,7 @@ use Rattle.demand.specs.DemandOne.{handed}
 use Rattle.demand.proofs.RunsInParts.{refused-stays}
 
 unfoldable computes : Unit {0}
-unfolding bitU bitS bitE bitM bitH bitsX frame pageOf dispOf next base real wordOf accessed tests.sixTests tests.tests lookOf accessedAt readByte
+unfolding bitU bitS bitE bitM bitH bitsX frame pageOf dispOf next base size real wordOf accessed tests.sixTests tests.tests reach lookOf accessedAt readByte
     code.table code.actionOf interp run looks gets halfword ahead part address rx act step proper stepOutcome runOutcome
 computes = tt
 

@@ -15,8 +15,7 @@ use Rattle.pages.specs.declared.Access.{Access}
 use Rattle.pages.specs.declared.Access.the-variants.{Load}
 use Rattle.pages.specs.Word.{bitG, bitU, bitS, bitE, bitM, bitH, bitsX, frame, pageOf, dispOf, next, base, size, real, wordOf, accessed, written}
 use Rattle.pages.specs.Tests as tests
-use Rattle.pages.specs.Look.{lookOf}
-use Rattle.pages.specs.Compact.{realOf, ordinary, compact}
+use Rattle.pages.specs.Look.{reach, lookOf}
 use Rattle.pages.specs.Framed.{Framed, accessedAt, writtenAt, readByte, writeByte}
 use Rattle.code.specs.declared.RrFields.{RrFields}
 use Rattle.code.specs.declared.RxFields.{RxFields}
@@ -44,7 +43,7 @@ use Rattle.slips.specs.Row.{Row, row}
 unfoldable pub computes : Unit {0}
 unfolding signed kept overflows spread signCode compareSigned compareBits zeroCode maskCode signedResult carried logicOf combineOf
     shiftedLeft shiftedRight productOf quotientOf remainderOf pairOf signBit leftward rightward shiftedOf bitG bitU bitS bitE bitM bitH
-    bitsX frame pageOf dispOf next base size real wordOf accessed written tests.sixTests tests.tests lookOf realOf ordinary compact
+    bitsX frame pageOf dispOf next base size real wordOf accessed written tests.sixTests tests.tests reach lookOf
     accessedAt writtenAt readByte writeByte code.table code.actionOf interp run looks gets puts moves compares loading storing halfword
     reg ahead part address pair intoPair chosen link lessOne branch rr taken rx fills spills indexSum comparand isHigh shiftedWord
     shiftedPair rs si ss act step proper stepOutcome runOutcome

@@ -1,55 +1,74 @@
-use Rattle.fields.proofs.Together.{compact-room, compact-compare}
+use mathlib.Core.Path.{_≡_, refl, sym, _∙_}
+use Rattle.pages.specs.Framed.{framedOf}
+use Rattle.pages.proofs.ReachLaws.{reach-some, reach-inside}
+use Rattle.fields.specs.Direct.{compareField}
+use Rattle.fields.proofs.ByteLoops.{compare-none}
+use Rattle.fields.proofs.Pieces.{piece-within, piece-reached, piece-some, trans, room, less, compare-unlike, compare-alike}
+use Rattle.fields.proofs.Reached.{reach-compare}
 use borrow.Author.Needs.{needs}
 use Rattle.fields.proofs.compare_field.Statement.{statement}
 use Rattle.fields.proofs.compare_field.Tie as tie
-use Rattle.fields.proofs.compare_field.Reads as reads
-use Rattle.fields.proofs.compare_field.Lts as lts
-use Rattle.fields.proofs.compare_each.Reads as compare-each-reads
-use Rattle.fields.proofs.compare_flat.Reads as compare-flat-reads
-use Rattle.lookup.proofs.is_compact.Reads as is-compact-reads
-use Rattle.lookup.proofs.real_at.Reads as real-at-reads
 
--- src/lib.rt:266:8
-is-compact-requires : tie.Need-is-compact-requires
-is-compact-requires c κs = search needs
+abbrev Inv-loop : tie.InvT-loop
+Inv-loop mem map first second len a₀ b₀ left₀ a b left =
+    compareField (framedOf mem map) first second len ≡ compareField (framedOf mem map) a b left
 
--- src/lib.rt:267:12
-is-compact-requires-2 : tie.Need-is-compact-requires-2
-is-compact-requires-2 c κs = search needs
+abbrev μ-loop : tie.MeasureT-loop
+μ-loop mem map first second len a₀ b₀ left₀ a b left = left
 
--- src/lib.rt:268:17
-real-at-requires : tie.Need-real-at-requires
-real-at-requires c κs = search needs
+loop-holds : tie.Need-loop-holds Inv-loop μ-loop
+loop-holds c = refl
 
--- src/lib.rt:269:17
-real-at-requires-2 : tie.Need-real-at-requires-2
-real-at-requires-2 c κs = search needs
+returns : tie.Need-returns Inv-loop μ-loop
+returns c = (c .compare-each .ensures) ∙ sym (c .before .before .before .before .before .loop .inv)
 
--- src/lib.rt:270:13
-compare-flat-requires : tie.Need-compare-flat-requires
-compare-flat-requires c κs = (compact-room _ _ _ _ _ _ (c .before .before .before .before .before .is-compact .ensures) (c .before .before .before .before .if1 .taken) _ ((c .before .real-at .ensures) .0), compact-room _ _ _ _ _ _ (c .before .before .before .is-compact2 .ensures) (c .before .before .if2 .taken) _ ((c .real-at2 .ensures) .0))
+returns-2 : tie.Need-returns-2 Inv-loop μ-loop
+returns-2 c = (c .compare-each2 .ensures) ∙ sym (c .before .before .before .before .before .before .before .before .before .loop .inv)
 
--- src/lib.rt:270:13
-returns : tie.Need-returns
-returns c = compact-compare _ _ _ _ _ _ _ (c .before .before .before .before .is-compact2 .ensures) (c .before .before .before .if2 .taken) _ _ ((c .before .before .real-at .ensures) .0) ((c .before .real-at2 .ensures) .0) (c .before .before .before .before .before .before .is-compact .ensures) (c .before .before .before .before .before .if1 .taken) _ (c .compare-flat .ensures)
+compare-flat-requires : tie.Need-compare-flat-requires Inv-loop μ-loop
+compare-flat-requires c κs = (room _ _ _ _ (reach-inside _ _ _ _ _ _ (sym (c .before .before .before .before .before .before .before .before .before .look-up .ensures) ∙ ((c .before .before .before .before .before .before .before .one .given) .1))) (trans (piece-within _ _ _ (c .fewer-of2 .ensures)) (piece-reached _ _ _ (c .before .fewer-of .ensures))), room _ _ _ _ (reach-inside _ _ _ _ _ _ (sym (c .before .before .before .before .before .look-up2 .ensures) ∙ ((c .before .before .before .other .given) .1))) (piece-reached _ _ _ (c .fewer-of2 .ensures)))
 
--- src/lib.rt:273:5
-compare-each-requires : tie.Need-compare-each-requires
-compare-each-requires c κs = search needs
+returns-3 : tie.Need-returns-3 Inv-loop μ-loop
+returns-3 c = compare-unlike _ _ (piece-some _ _ _ (c .before .before .fewer-of2 .ensures) (piece-some _ _ _ (c .before .before .before .fewer-of .ensures) (c .before .before .before .before .before .before .before .before .before .before .before .before .loop-test .taken) (reach-some _ _ _ _ _ _ (sym (c .before .before .before .before .before .before .before .before .before .before .before .look-up .ensures) ∙ ((c .before .before .before .before .before .before .before .before .before .one .given) .1)))) (reach-some _ _ _ _ _ _ (sym (c .before .before .before .before .before .before .before .look-up2 .ensures) ∙ ((c .before .before .before .before .before .other .given) .1)))) (trans (piece-within _ _ _ (c .before .before .fewer-of2 .ensures)) (piece-within _ _ _ (c .before .before .before .fewer-of .ensures))) _ _ _ _ ((c .before .compare-flat .ensures) ∙ reach-compare _ _ _ _ _ _ _ _ (sym (c .before .before .before .before .before .before .before .before .before .before .before .look-up .ensures) ∙ ((c .before .before .before .before .before .before .before .before .before .one .given) .1)) (sym (c .before .before .before .before .before .before .before .look-up2 .ensures) ∙ ((c .before .before .before .before .before .other .given) .1)) _ (trans (piece-within _ _ _ (c .before .before .fewer-of2 .ensures)) (piece-reached _ _ _ (c .before .before .before .fewer-of .ensures))) (piece-reached _ _ _ (c .before .before .fewer-of2 .ensures))) (c .if1 .taken) ∙ sym (c .before .before .before .before .before .before .before .before .before .before .before .before .before .loop .inv)
 
--- src/lib.rt:263:1
-returns-2 : tie.Need-returns-2
-returns-2 c = search needs
+sub-left : tie.Need-sub-left Inv-loop μ-loop
+sub-left c = (trans (piece-within _ _ _ (c .before .before .before .before .fewer-of2 .ensures)) (piece-within _ _ _ (c .before .before .before .before .before .fewer-of .ensures)))
+
+loop-less : tie.Need-loop-less Inv-loop μ-loop
+loop-less c = less (piece-some _ _ _ (c .before .before .before .before .fewer-of2 .ensures) (piece-some _ _ _ (c .before .before .before .before .before .fewer-of .ensures) (c .before .before .before .before .before .before .before .before .before .before .before .before .before .before .loop-test .taken) (reach-some _ _ _ _ _ _ (sym (c .before .before .before .before .before .before .before .before .before .before .before .before .before .look-up .ensures) ∙ ((c .before .before .before .before .before .before .before .before .before .before .before .one .given) .1)))) (reach-some _ _ _ _ _ _ (sym (c .before .before .before .before .before .before .before .before .before .look-up2 .ensures) ∙ ((c .before .before .before .before .before .before .before .other .given) .1)))) (trans (piece-within _ _ _ (c .before .before .before .before .fewer-of2 .ensures)) (piece-within _ _ _ (c .before .before .before .before .before .fewer-of .ensures)))
+
+loop-again : tie.Need-loop-again Inv-loop μ-loop
+loop-again c = rw ((c .before .past-of .ensures), (c .past-of2 .ensures)) ((c .before .before .before .before .before .before .before .before .before .before .before .before .before .before .before .loop .inv) ∙ compare-alike _ _ (piece-some _ _ _ (c .before .before .before .before .fewer-of2 .ensures) (piece-some _ _ _ (c .before .before .before .before .before .fewer-of .ensures) (c .before .before .before .before .before .before .before .before .before .before .before .before .before .before .loop-test .taken) (reach-some _ _ _ _ _ _ (sym (c .before .before .before .before .before .before .before .before .before .before .before .before .before .look-up .ensures) ∙ ((c .before .before .before .before .before .before .before .before .before .before .before .one .given) .1)))) (reach-some _ _ _ _ _ _ (sym (c .before .before .before .before .before .before .before .before .before .look-up2 .ensures) ∙ ((c .before .before .before .before .before .before .before .other .given) .1)))) (trans (piece-within _ _ _ (c .before .before .before .before .fewer-of2 .ensures)) (piece-within _ _ _ (c .before .before .before .before .before .fewer-of .ensures))) _ _ _ _ ((c .before .before .before .compare-flat .ensures) ∙ reach-compare _ _ _ _ _ _ _ _ (sym (c .before .before .before .before .before .before .before .before .before .before .before .before .before .look-up .ensures) ∙ ((c .before .before .before .before .before .before .before .before .before .before .before .one .given) .1)) (sym (c .before .before .before .before .before .before .before .before .before .look-up2 .ensures) ∙ ((c .before .before .before .before .before .before .before .other .given) .1)) _ (trans (piece-within _ _ _ (c .before .before .before .before .fewer-of2 .ensures)) (piece-reached _ _ _ (c .before .before .before .before .before .fewer-of .ensures))) (piece-reached _ _ _ (c .before .before .before .before .fewer-of2 .ensures))) (c .before .before .if1 .left))
+
+returns-4 : tie.Need-returns-4 Inv-loop μ-loop
+returns-4 c = sym ((c .before .loop .inv) ∙ compare-none _ (c .loop-test .left) _ _ _)
 
 pub compare-field-spec : {M : Type 1} → statement M
 compare-field-spec =
     tie.close
     (tie.spec
-    is-compact-requires
-    is-compact-requires-2
-    real-at-requires
-    real-at-requires-2
-    compare-flat-requires
+    Inv-loop
+    μ-loop
+    loop-holds
+    (λ c κs. search needs)
+    (λ c. search needs)
+    (λ c. search needs)
+    (λ c κs. search needs)
     returns
-    compare-each-requires
-    returns-2)
+    (λ c κs. search needs)
+    (λ c. search needs)
+    (λ c. search needs)
+    (λ c κs. search needs)
+    returns-2
+    (λ c. search needs)
+    (λ c κs. search needs)
+    (λ c. search needs)
+    (λ c κs. search needs)
+    compare-flat-requires
+    returns-3
+    (λ c κs. search needs)
+    (λ c κs. search needs)
+    sub-left
+    loop-less
+    loop-again
+    returns-4)

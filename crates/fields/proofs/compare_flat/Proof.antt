@@ -3,7 +3,7 @@ use native.Mathlib.Omega.{arith}
 use mathlib.Core.Path.{_≡_, refl, sym, _∙_}
 use lib.ListN.{length}
 use Rattle.fields.specs.Direct.{flatCompare}
-use Rattle.fields.proofs.Together.{flat-compare-turn, flat-compare-none, flat-compare-low, flat-compare-high}
+use Rattle.fields.proofs.FlatLoops.{flat-compare-turn, flat-compare-none, flat-compare-low, flat-compare-high}
 use borrow.Author.Needs.{needs}
 use Rattle.fields.proofs.compare_flat.Statement.{statement}
 use Rattle.fields.proofs.compare_flat.Tie as tie

@@ -1,81 +1,96 @@
-use Rattle.fields.proofs.Together.{compact-room, compact-move}
+use mathlib.Core.Path.{_≡_, refl, sym, _∙_}
+use lib.ListN.{length}
+use Rattle.pages.specs.Framed.{framedOf}
+use Rattle.pages.proofs.ReachLaws.{reach-some, reach-inside}
+use Rattle.fields.specs.Direct.{moveField}
+use Rattle.fields.proofs.ByteLoops.{move-none}
+use Rattle.fields.proofs.Pieces.{piece-within, piece-reached, piece-some, trans, room, less}
+use Rattle.fields.proofs.Reached.{reach-moved}
 use borrow.Author.Needs.{needs}
 use Rattle.fields.proofs.move_field.Statement.{statement}
 use Rattle.fields.proofs.move_field.Tie as tie
-use Rattle.fields.proofs.move_field.Reads as reads
-use Rattle.fields.proofs.move_field.Lts as lts
-use Rattle.fields.proofs.move_each.Reads as move-each-reads
-use Rattle.fields.proofs.move_flat.Reads as move-flat-reads
-use Rattle.lookup.proofs.is_compact.Reads as is-compact-reads
-use Rattle.lookup.proofs.note_written.Reads as note-written-reads
-use Rattle.lookup.proofs.real_at.Reads as real-at-reads
 
--- src/lib.rt:218:8
-is-compact-requires : tie.Need-is-compact-requires
-is-compact-requires c κs = search needs
+abbrev Inv-loop : tie.InvT-loop
+Inv-loop mem₀ map₀ to from len a₀ b₀ left₀ mem map a b left =
+    (moveField (framedOf mem₀ map₀) to from len ≡ moveField (framedOf mem map) a b left) × (length mem ≡ length mem₀) × (length map ≡ length map₀)
 
--- src/lib.rt:219:12
-is-compact-requires-2 : tie.Need-is-compact-requires-2
-is-compact-requires-2 c κs = search needs
+abbrev μ-loop : tie.MeasureT-loop
+μ-loop mem₀ map₀ to from len a₀ b₀ left₀ mem map a b left = left
 
--- src/lib.rt:220:17
-real-at-requires : tie.Need-real-at-requires
-real-at-requires c κs = search needs
+loop-holds : tie.Need-loop-holds Inv-loop μ-loop
+loop-holds c = (refl, refl, refl)
 
--- src/lib.rt:221:17
-real-at-requires-2 : tie.Need-real-at-requires-2
-real-at-requires-2 c κs = search needs
+same-length : tie.Need-same-length Inv-loop μ-loop
+same-length c = (c .before .before .before .before .move-each .kept .0) ∙ (c .before .before .before .before .before .before .before .before .before .before .before .before .loop .inv .1)
 
--- src/lib.rt:222:13
-move-flat-requires : tie.Need-move-flat-requires
-move-flat-requires c κs = (compact-room _ _ _ _ _ _ (c .before .before .before .before .before .before .before .before .before .is-compact .ensures) (c .before .before .before .before .before .before .before .before .if1 .taken) _ ((c .before .before .before .real-at .ensures) .0), compact-room _ _ _ _ _ _ (c .before .before .before .before .before .before .is-compact2 .ensures) (c .before .before .before .before .before .if2 .taken) _ ((c .before .real-at2 .ensures) .0))
+same-length-2 : tie.Need-same-length-2 Inv-loop μ-loop
+same-length-2 c = (c .before .before .before .before .move-each .kept .1 .0) ∙ (c .before .before .before .before .before .before .before .before .before .before .before .before .loop .inv .2)
 
--- src/lib.rt:223:13
-note-written-requires : tie.Need-note-written-requires
-note-written-requires c κs = search needs
+returns : tie.Need-returns Inv-loop μ-loop
+returns c = (c .before .before .before .before .move-each .ensures) ∙ sym (c .before .before .before .before .before .before .before .before .before .before .before .before .loop .inv .0)
 
--- src/lib.rt:224:13
-same-length : tie.Need-same-length
-same-length c = search needs
+same-length-3 : tie.Need-same-length-3 Inv-loop μ-loop
+same-length-3 c = (c .before .before .before .before .move-each2 .kept .0) ∙ (c .before .before .before .before .before .before .before .before .before .before .before .before .before .before .before .before .before .loop .inv .1)
 
--- src/lib.rt:224:13
-same-length-2 : tie.Need-same-length-2
-same-length-2 c = search needs
+same-length-4 : tie.Need-same-length-4 Inv-loop μ-loop
+same-length-4 c = (c .before .before .before .before .move-each2 .kept .1 .0) ∙ (c .before .before .before .before .before .before .before .before .before .before .before .before .before .before .before .before .before .loop .inv .2)
 
--- src/lib.rt:224:13
-returns : tie.Need-returns
-returns c = compact-move _ _ _ _ _ _ _ (c .before .before .before .before .before .before .before .before .before .before .before .before .before .is-compact2 .ensures) (c .before .before .before .before .before .before .before .before .before .before .before .before .if2 .taken) _ _ ((c .before .before .before .before .before .before .before .before .before .before .real-at .ensures) .0) ((c .before .before .before .before .before .before .before .before .real-at2 .ensures) .0) (c .before .before .before .before .before .before .before .before .before .before .before .before .before .before .before .before .is-compact .ensures) (c .before .before .before .before .before .before .before .before .before .before .before .before .before .before .before .if1 .taken) _ _ (c .before .before .before .before .before .before .move-flat .ensures) (c .before .before .note-written .ensures)
+returns-2 : tie.Need-returns-2 Inv-loop μ-loop
+returns-2 c = (c .before .before .before .before .move-each2 .ensures) ∙ sym (c .before .before .before .before .before .before .before .before .before .before .before .before .before .before .before .before .before .loop .inv .0)
 
--- src/lib.rt:227:5
-move-each-requires : tie.Need-move-each-requires
-move-each-requires c κs = search needs
+move-flat-requires : tie.Need-move-flat-requires Inv-loop μ-loop
+move-flat-requires c κs = (room _ _ _ _ (reach-inside _ _ _ _ _ _ (sym (c .before .before .before .before .before .before .before .before .before .before .before .look-up .ensures) ∙ ((c .before .before .before .before .before .before .before .before .before .there .given) .1))) (trans (piece-within _ _ _ (c .before .fewer-of2 .ensures)) (piece-reached _ _ _ (c .before .before .fewer-of .ensures))), room _ _ _ _ (reach-inside _ _ _ _ _ _ (sym (c .before .before .before .before .before .before .look-up2 .ensures) ∙ ((c .before .before .before .before .here .given) .1))) (piece-reached _ _ _ (c .before .fewer-of2 .ensures)))
 
--- src/lib.rt:215:1
-same-length-3 : tie.Need-same-length-3
-same-length-3 c = search needs
+sub-left : tie.Need-sub-left Inv-loop μ-loop
+sub-left c = (trans (piece-within _ _ _ (c .before .before .before .before .before .before .before .before .before .before .fewer-of2 .ensures)) (piece-within _ _ _ (c .before .before .before .before .before .before .before .before .before .before .before .fewer-of .ensures)))
 
--- src/lib.rt:215:1
-same-length-4 : tie.Need-same-length-4
-same-length-4 c = search needs
+loop-less : tie.Need-loop-less Inv-loop μ-loop
+loop-less c = less (piece-some _ _ _ (c .before .before .before .before .before .before .before .before .before .before .fewer-of2 .ensures) (piece-some _ _ _ (c .before .before .before .before .before .before .before .before .before .before .before .fewer-of .ensures) (c .before .before .before .before .before .before .before .before .before .before .before .before .before .before .before .before .before .before .before .before .before .before .loop-test .taken) (reach-some _ _ _ _ _ _ (sym (c .before .before .before .before .before .before .before .before .before .before .before .before .before .before .before .before .before .before .before .before .look-up .ensures) ∙ ((c .before .before .before .before .before .before .before .before .before .before .before .before .before .before .before .before .before .before .there .given) .1)))) (reach-some _ _ _ _ _ _ (sym (c .before .before .before .before .before .before .before .before .before .before .before .before .before .before .before .look-up2 .ensures) ∙ ((c .before .before .before .before .before .before .before .before .before .before .before .before .before .here .given) .1)))) (trans (piece-within _ _ _ (c .before .before .before .before .before .before .before .before .before .before .fewer-of2 .ensures)) (piece-within _ _ _ (c .before .before .before .before .before .before .before .before .before .before .before .fewer-of .ensures)))
 
--- src/lib.rt:215:1
-returns-2 : tie.Need-returns-2
-returns-2 c = search needs
+loop-again : tie.Need-loop-again Inv-loop μ-loop
+loop-again c = (rw ((c .before .past-of .ensures), (c .past-of2 .ensures)) ((c .before .before .before .before .before .before .before .before .before .before .before .before .before .before .before .before .before .before .before .before .before .before .before .loop .inv .0) ∙ reach-moved _ _ _ _ _ _ _ _ (sym (c .before .before .before .before .before .before .before .before .before .before .before .before .before .before .before .before .before .before .before .before .look-up .ensures) ∙ ((c .before .before .before .before .before .before .before .before .before .before .before .before .before .before .before .before .before .before .there .given) .1)) (sym (c .before .before .before .before .before .before .before .before .before .before .before .before .before .before .before .look-up2 .ensures) ∙ ((c .before .before .before .before .before .before .before .before .before .before .before .before .before .here .given) .1)) _ refl _ _ (piece-some _ _ _ (c .before .before .before .before .before .before .before .before .before .before .fewer-of2 .ensures) (piece-some _ _ _ (c .before .before .before .before .before .before .before .before .before .before .before .fewer-of .ensures) (c .before .before .before .before .before .before .before .before .before .before .before .before .before .before .before .before .before .before .before .before .before .before .loop-test .taken) (reach-some _ _ _ _ _ _ (sym (c .before .before .before .before .before .before .before .before .before .before .before .before .before .before .before .before .before .before .before .before .look-up .ensures) ∙ ((c .before .before .before .before .before .before .before .before .before .before .before .before .before .before .before .before .before .before .there .given) .1)))) (reach-some _ _ _ _ _ _ (sym (c .before .before .before .before .before .before .before .before .before .before .before .before .before .before .before .look-up2 .ensures) ∙ ((c .before .before .before .before .before .before .before .before .before .before .before .before .before .here .given) .1)))) (trans (piece-within _ _ _ (c .before .before .before .before .before .before .before .before .before .before .fewer-of2 .ensures)) (piece-within _ _ _ (c .before .before .before .before .before .before .before .before .before .before .before .fewer-of .ensures))) (trans (piece-within _ _ _ (c .before .before .before .before .before .before .before .before .before .before .fewer-of2 .ensures)) (piece-reached _ _ _ (c .before .before .before .before .before .before .before .before .before .before .before .fewer-of .ensures))) (piece-reached _ _ _ (c .before .before .before .before .before .before .before .before .before .before .fewer-of2 .ensures)) _ _ (c .before .before .before .before .before .before .before .before .move-flat .ensures) (c .before .before .before .before .note-written .ensures)), (c .before .before .before .before .before .before .before .before .move-flat .kept .0) ∙ (c .before .before .before .before .before .before .before .before .before .before .before .before .before .before .before .before .before .before .before .before .before .before .before .loop .inv .1), (c .before .before .before .before .note-written .kept .0) ∙ (c .before .before .before .before .before .before .before .before .before .before .before .before .before .before .before .before .before .before .before .before .before .before .before .loop .inv .2))
+
+same-length-5 : tie.Need-same-length-5 Inv-loop μ-loop
+same-length-5 c = (c .before .loop .inv .1)
+
+same-length-6 : tie.Need-same-length-6 Inv-loop μ-loop
+same-length-6 c = (c .before .loop .inv .2)
+
+returns-3 : tie.Need-returns-3 Inv-loop μ-loop
+returns-3 c = sym ((c .before .loop .inv .0) ∙ move-none _ (c .loop-test .left) _ _ _)
 
 pub move-field-spec : {M : Type 1} → statement M
 move-field-spec =
     tie.close
     (tie.spec
-    is-compact-requires
-    is-compact-requires-2
-    real-at-requires
-    real-at-requires-2
-    move-flat-requires
-    note-written-requires
+    Inv-loop
+    μ-loop
+    loop-holds
+    (λ c κs. search needs)
+    (λ c. search needs)
+    (λ c. search needs)
+    (λ c κs. search needs)
     same-length
     same-length-2
     returns
-    move-each-requires
+    (λ c κs. search needs)
+    (λ c. search needs)
+    (λ c. search needs)
+    (λ c κs. search needs)
     same-length-3
     same-length-4
-    returns-2)
+    returns-2
+    (λ c. search needs)
+    (λ c κs. search needs)
+    (λ c. search needs)
+    (λ c κs. search needs)
+    move-flat-requires
+    (λ c κs. search needs)
+    (λ c κs. search needs)
+    (λ c κs. search needs)
+    sub-left
+    loop-less
+    loop-again
+    same-length-5
+    same-length-6
+    returns-3)

@@ -3,7 +3,7 @@ use native.Mathlib.Omega.{arith}
 use mathlib.Core.Path.{_≡_, refl, sym, _∙_}
 use lib.ListN.{length, getD, length-set}
 use Rattle.fields.specs.Direct.{flatMove}
-use Rattle.fields.proofs.Together.{flat-move-turn, flat-move-none}
+use Rattle.fields.proofs.FlatLoops.{flat-move-turn, flat-move-none}
 use borrow.Author.Needs.{needs}
 use Rattle.fields.proofs.move_flat.Statement.{statement}
 use Rattle.fields.proofs.move_flat.Tie as tie

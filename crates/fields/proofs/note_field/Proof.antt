@@ -1,42 +1,53 @@
-use Rattle.fields.proofs.MarkedOnce.{page-note}
+use Prim.Native.Nat.{_-_}
+use native.Mathlib.Omega.{arith}
+use mathlib.Core.Path.{_≡_, refl, sym, _∙_}
+use lib.ListN.{length}
+use Rattle.fields.specs.Direct.{noteField}
+use Rattle.fields.proofs.ByteLoops.{note-none}
+use Rattle.fields.proofs.MarkedOnce.{note-on, page-some}
+use Rattle.fields.proofs.Pieces.{piece-within, piece-reached, piece-some, piece-less}
 use borrow.Author.Needs.{needs}
 use Rattle.fields.proofs.note_field.Statement.{statement}
 use Rattle.fields.proofs.note_field.Tie as tie
-use Rattle.fields.proofs.note_field.Reads as reads
-use Rattle.fields.proofs.note_field.Lts as lts
-use Rattle.fields.proofs.is_on_page.Reads as is-on-page-reads
-use Rattle.fields.proofs.note_each.Reads as note-each-reads
-use Rattle.lookup.proofs.note.Reads as note-reads
 
-is-on-page-requires : tie.Need-is-on-page-requires
-is-on-page-requires c κs = search needs
+abbrev Inv-loop : tie.InvT-loop
+Inv-loop map₀ at len to₀ left₀ map to left = (noteField map₀ at len ≡ noteField map to left) × (length map ≡ length map₀)
 
-note-requires : tie.Need-note-requires
-note-requires c κs = search needs
+abbrev μ-loop : tie.MeasureT-loop
+μ-loop map₀ at len to₀ left₀ map to left = left
 
-same-length : tie.Need-same-length
-same-length c = search needs
+loop-holds : tie.Need-loop-holds Inv-loop μ-loop
+loop-holds c = (refl, refl)
 
-returns : tie.Need-returns
-returns c = page-note _ _ _ _ _ (c .before .before .before .before .before .is-on-page .ensures) (c .before .before .before .before .if1 .taken) (c .before .before .note .ensures)
+sub-left : tie.Need-sub-left Inv-loop μ-loop
+sub-left c = (piece-within _ _ _ (c .before .fewer-of .ensures))
 
-note-each-requires : tie.Need-note-each-requires
-note-each-requires c κs = search needs
+loop-less : tie.Need-loop-less Inv-loop μ-loop
+loop-less c = piece-less _ _ _ (c .before .fewer-of .ensures) (c .before .before .before .before .before .before .before .loop-test .taken) (page-some _ _ (c .before .before .in-page .ensures))
 
-same-length-2 : tie.Need-same-length-2
-same-length-2 c = search needs
+loop-again : tie.Need-loop-again Inv-loop μ-loop
+loop-again c = (rw (c .past-of .ensures) ((c .before .before .before .before .before .before .before .before .loop .inv .0) ∙ note-on _ _ _ _ _ (piece-some _ _ _ (c .before .fewer-of .ensures) (c .before .before .before .before .before .before .before .loop-test .taken) (page-some _ _ (c .before .before .in-page .ensures))) (piece-within _ _ _ (c .before .fewer-of .ensures)) (rw (← (c .before .before .in-page .ensures)) (piece-reached _ _ _ (c .before .fewer-of .ensures))) (c .before .before .before .before .before .note .ensures)), (c .before .before .before .before .before .note .kept .0) ∙ (c .before .before .before .before .before .before .before .before .loop .inv .1))
 
-returns-2 : tie.Need-returns-2
-returns-2 c = search needs
+same-length : tie.Need-same-length Inv-loop μ-loop
+same-length c = (c .before .loop .inv .1)
+
+returns : tie.Need-returns Inv-loop μ-loop
+returns c = sym ((c .before .loop .inv .0) ∙ note-none _ (c .loop-test .left) _ _)
 
 pub note-field-spec : {M : Type 1} → statement M
 note-field-spec =
     tie.close
     (tie.spec
-    is-on-page-requires
-    note-requires
+    Inv-loop
+    μ-loop
+    loop-holds
+    (λ c κs. search needs)
+    (λ c κs. search needs)
+    (λ c. search needs)
+    (λ c κs. search needs)
+    (λ c κs. search needs)
+    sub-left
+    loop-less
+    loop-again
     same-length
-    returns
-    note-each-requires
-    same-length-2
-    returns-2)
+    returns)

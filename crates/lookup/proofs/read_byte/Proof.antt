@@ -20,7 +20,7 @@ returns : tie.Need-returns
 returns c = search read-refused
 
 shared-slice-read-result : tie.Need-shared-slice-read-result
-shared-slice-read-result c = found-less _ _ _ _ _ _ (c .before .before .before .before .look-up .ensures) ((c .before .before .found .given) .1)
+shared-slice-read-result c = found-less _ _ _ _ _ _ _ (c .before .before .before .before .look-up .ensures) ((c .before .before .found .given) .1)
 
 returns-2 : tie.Need-returns-2
 returns-2 c = search read-found

@@ -24,7 +24,7 @@ returns : tie.Need-returns
 returns c = search write-refused
 
 slice-write-mem : tie.Need-slice-write-mem
-slice-write-mem c = found-less _ _ _ _ _ _ (c .before .before .before .look-up .ensures) ((c .before .found .given) .1)
+slice-write-mem c = found-less _ _ _ _ _ _ _ (c .before .before .before .look-up .ensures) ((c .before .found .given) .1)
 
 note-written-requires : tie.Need-note-written-requires
 note-written-requires c κs = search needs

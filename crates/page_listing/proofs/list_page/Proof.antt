@@ -1,37 +1,15 @@
+use mathlib.Core.Path.{sym, _∙_}
+use Rattle.pages.proofs.ReachLaws.{reach-inside}
 use Rattle.page_listing.proofs.Answers.{no-page, first-found, first-refused}
 use borrow.Author.Needs.{needs}
 use Rattle.page_listing.proofs.list_page.Statement.{statement}
 use Rattle.page_listing.proofs.list_page.Tie as tie
 
-refused-requires : tie.Need-refused-requires
-refused-requires c κs = search needs
-
 returns : tie.Need-returns
 returns c = search no-page
 
-mul-look-up : tie.Need-mul-look-up
-mul-look-up c = search needs
-
-look-up-requires : tie.Need-look-up-requires
-look-up-requires c κs = search needs
-
-enum-told : tie.Need-enum-told
-enum-told c = search needs
-
 list-found-requires : tie.Need-list-found-requires
-list-found-requires c κs = search needs
-
-enum-known-found : tie.Need-enum-known-found
-enum-known-found c = search needs
-
-number-of-requires : tie.Need-number-of-requires
-number-of-requires c κs = search needs
-
-refused-requires-2 : tie.Need-refused-requires-2
-refused-requires-2 c κs = search needs
-
-same-length : tie.Need-same-length
-same-length c = search needs
+list-found-requires c κs = ((c .before .before .before .before .before .if1 .left), reach-inside _ _ _ _ _ _ (sym (c .before .before .before .before .look-up .ensures) ∙ ((c .before .before .found .given) .1)))
 
 returns-2 : tie.Need-returns-2
 returns-2 c = search first-found
@@ -43,15 +21,15 @@ pub list-page-spec : {M : Type 1} → statement M
 list-page-spec =
     tie.close
     (tie.spec
-    refused-requires
+    (λ c κs. search needs)
     returns
-    mul-look-up
-    look-up-requires
-    enum-told
+    (λ c. search needs)
+    (λ c κs. search needs)
+    (λ c. search needs)
     list-found-requires
-    enum-known-found
-    number-of-requires
-    refused-requires-2
-    same-length
+    (λ c. search needs)
+    (λ c κs. search needs)
+    (λ c κs. search needs)
+    (λ c. search needs)
     returns-2
     returns-3)

@@ -21,7 +21,7 @@ use Rattle.rx_si.proofs.rx.take.Reads as take-reads
 use Rattle.rx_si.proofs.rx.width_of.Reads as width-of-reads
 use Rattle.fields.proofs.bytes_of.Reads as bytes-of-reads
 use Rattle.fields.proofs.is_off.Reads as is-off-reads
-use Rattle.fields.proofs.look_one.Reads as look-one-reads
+use Rattle.fields.proofs.look_operand.Reads as look-operand-reads
 use Rattle.lookup.proofs.note.Reads as note-reads
 
 -- src/rx.rt:65:9
@@ -50,8 +50,8 @@ bytes-of-requires : tie.Need-bytes-of-requires
 bytes-of-requires c κs = search needs
 
 -- src/rx.rt:70:9
-look-one-requires : tie.Need-look-one-requires
-look-one-requires c κs = search needs
+look-operand-requires : tie.Need-look-operand-requires
+look-operand-requires c κs = rw ((c .bytes-of .ensures) .0) (aligned-fits (c .before .before .before .before .width-of .result) _ (on-is _ _ (c .before .before .before .is-off .ensures) (c .before .before .if1 .left)))
 
 -- src/rx.rt:71:18
 enum-known-found : tie.Need-enum-known-found
@@ -76,7 +76,7 @@ same-length-3 c = search needs
 -- src/rx.rt:72:9
 returns-2 : tie.Need-returns-2
 unfolding rx loading
-returns-2 c = rw (← (c .before .before .before .before .before .before .before .before .width-of .ensures), ← (c .before .before .before .before .before .before .before .before .before .operand-address .ensures)) (operand-stop _ _ _ _ _ _ _ _ _ tt (on-is _ _ (c .before .before .before .before .before .before .before .is-off .ensures) (c .before .before .before .before .before .before .if1 .left)) _ (len-is _ _ _ _ _ _ _ (c .before .before .before .look-one .ensures) ((c .before .before .before .before .bytes-of .ensures) .0)) _ _ _ (width-some (c .before .before .before .before .before .before .before .before .width-of .result)) (c .refusal .ensures) ((c .before .enum-told .given) .1))
+returns-2 c = rw (← (c .before .before .before .before .before .before .before .before .width-of .ensures), ← (c .before .before .before .before .before .before .before .before .before .operand-address .ensures)) (operand-stop _ _ _ _ _ _ _ _ _ tt (on-is _ _ (c .before .before .before .before .before .before .before .is-off .ensures) (c .before .before .before .before .before .before .if1 .left)) _ (len-is _ _ _ _ _ _ _ (c .before .before .before .look-operand .ensures) ((c .before .before .before .before .bytes-of .ensures) .0)) _ _ _ (width-some (c .before .before .before .before .before .before .before .before .width-of .result)) (c .refusal .ensures) ((c .before .enum-told .given) .1))
 
 -- src/rx.rt:74:35
 reg-requires : tie.Need-reg-requires
@@ -84,7 +84,7 @@ reg-requires c κs = search needs
 
 -- src/rx.rt:74:9
 take-requires : tie.Need-take-requires
-take-requires c κs = room-of (c .before .before .before .before .before .before .before .before .before .before .width-of .result) _ (c .before .before .before .before .before .before .before .before .before .before .width-of .ensures) _ _ (found-inside ((c .before .before .before .before .before .before .before .before .before .before .before .before .before .before .before .before .args .mem .now)) _ Load _ _ _ _ (len-is _ _ _ _ _ _ _ (c .before .before .before .before .before .look-one .ensures) ((c .before .before .before .before .before .before .bytes-of .ensures) .0)) ((c .before .before .before .found .given) .1) (width-some (c .before .before .before .before .before .before .before .before .before .before .width-of .result)) (aligned-fits (c .before .before .before .before .before .before .before .before .before .before .width-of .result) _ (on-is _ _ (c .before .before .before .before .before .before .before .before .before .is-off .ensures) (c .before .before .before .before .before .before .before .before .if1 .left))))
+take-requires c κs = room-of (c .before .before .before .before .before .before .before .before .before .before .width-of .result) _ (c .before .before .before .before .before .before .before .before .before .before .width-of .ensures) _ _ (found-inside ((c .before .before .before .before .before .before .before .before .before .before .before .before .before .before .before .before .args .mem .now)) _ Load _ _ _ _ _ (len-is _ _ _ _ _ _ _ (c .before .before .before .before .before .look-operand .ensures) ((c .before .before .before .before .before .before .bytes-of .ensures) .0)) ((c .before .before .before .found .given) .1) (width-some (c .before .before .before .before .before .before .before .before .before .before .width-of .result)) (aligned-fits (c .before .before .before .before .before .before .before .before .before .before .width-of .result) _ (on-is _ _ (c .before .before .before .before .before .before .before .before .before .is-off .ensures) (c .before .before .before .before .before .before .before .before .if1 .left))))
 
 -- src/rx.rt:75:5
 note-requires : tie.Need-note-requires
@@ -109,7 +109,7 @@ same-length-5 c = search needs
 -- src/rx.rt:62:1
 returns-3 : tie.Need-returns-3
 unfolding rx loading
-returns-3 c = rw (← (c .before .before .before .before .before .before .before .before .before .before .before .before .before .before .before .before .before .before .before .before .before .width-of .ensures), ← (c .before .before .before .before .before .before .before .before .before .before .before .before .before .before .before .before .before .before .before .before .before .before .operand-address .ensures)) (operand-go _ _ _ _ _ _ _ _ _ tt (on-is _ _ (c .before .before .before .before .before .before .before .before .before .before .before .before .before .before .before .before .before .before .before .before .is-off .ensures) (c .before .before .before .before .before .before .before .before .before .before .before .before .before .before .before .before .before .before .before .if1 .left)) _ (len-is _ _ _ _ _ _ _ (c .before .before .before .before .before .before .before .before .before .before .before .before .before .before .before .before .look-one .ensures) ((c .before .before .before .before .before .before .before .before .before .before .before .before .before .before .before .before .before .bytes-of .ensures) .0)) _ _ _ _ _ ((c .before .before .before .before .before .before .before .before .before .before .before .before .before .before .found .given) .1) (found-note ((c .before .before .before .before .before .before .before .before .before .before .before .before .before .before .before .before .before .before .before .before .before .before .before .before .before .before .before .args .mem .now)) _ Load _ _ _ _ (len-is _ _ _ _ _ _ _ (c .before .before .before .before .before .before .before .before .before .before .before .before .before .before .before .before .look-one .ensures) ((c .before .before .before .before .before .before .before .before .before .before .before .before .before .before .before .before .before .bytes-of .ensures) .0)) ((c .before .before .before .before .before .before .before .before .before .before .before .before .before .before .found .given) .1) (width-some (c .before .before .before .before .before .before .before .before .before .before .before .before .before .before .before .before .before .before .before .before .before .width-of .result)) (aligned-fits (c .before .before .before .before .before .before .before .before .before .before .before .before .before .before .before .before .before .before .before .before .before .width-of .result) _ (on-is _ _ (c .before .before .before .before .before .before .before .before .before .before .before .before .before .before .before .before .before .before .before .before .is-off .ensures) (c .before .before .before .before .before .before .before .before .before .before .before .before .before .before .before .before .before .before .before .if1 .left))) _ (c .before .before .before .before .before .before .before .before .note .ensures)) (loaded _ _ _ _ _ _ _ (taken-done _ _ _ _ _ _ _ _ _ _ _ (ap bytesOf (c .before .before .before .before .before .before .before .before .before .before .before .before .before .before .before .before .before .before .before .before .before .width-of .ensures)) (taken-at _ (c .before .before .before .before .before .before .before .before .before .before .before .before .before .before .before .before .before .before .before .before .before .width-of .result) _ _ _ _ ((c .before .before .before .before .before .before .before .before .before .before .before .before .before .before .before .before .before .before .before .before .before .before .before .before .before .before .before .args .mem .now)) _ _ (c .before .before .before .before .before .before .before .before .before .before .before .before .before .before .before .before .before .before .before .before .before .width-of .ensures) (c .before .before .before .before .before .before .before .before .before .before .take .ensures) (found-read ((c .before .before .before .before .before .before .before .before .before .before .before .before .before .before .before .before .before .before .before .before .before .before .before .before .before .before .before .args .mem .now)) _ Load _ _ _ _ (len-is _ _ _ _ _ _ _ (c .before .before .before .before .before .before .before .before .before .before .before .before .before .before .before .before .look-one .ensures) ((c .before .before .before .before .before .before .before .before .before .before .before .before .before .before .before .before .before .bytes-of .ensures) .0)) ((c .before .before .before .before .before .before .before .before .before .before .before .before .before .before .found .given) .1) (width-some (c .before .before .before .before .before .before .before .before .before .before .before .before .before .before .before .before .before .before .before .before .before .width-of .result)) (aligned-fits (c .before .before .before .before .before .before .before .before .before .before .before .before .before .before .before .before .before .before .before .before .before .width-of .result) _ (on-is _ _ (c .before .before .before .before .before .before .before .before .before .before .before .before .before .before .before .before .before .before .before .before .is-off .ensures) (c .before .before .before .before .before .before .before .before .before .before .before .before .before .before .before .before .before .before .before .if1 .left))) _ (found-note ((c .before .before .before .before .before .before .before .before .before .before .before .before .before .before .before .before .before .before .before .before .before .before .before .before .before .before .before .args .mem .now)) _ Load _ _ _ _ (len-is _ _ _ _ _ _ _ (c .before .before .before .before .before .before .before .before .before .before .before .before .before .before .before .before .look-one .ensures) ((c .before .before .before .before .before .before .before .before .before .before .before .before .before .before .before .before .before .bytes-of .ensures) .0)) ((c .before .before .before .before .before .before .before .before .before .before .before .before .before .before .found .given) .1) (width-some (c .before .before .before .before .before .before .before .before .before .before .before .before .before .before .before .before .before .before .before .before .before .width-of .result)) (aligned-fits (c .before .before .before .before .before .before .before .before .before .before .before .before .before .before .before .before .before .before .before .before .before .width-of .result) _ (on-is _ _ (c .before .before .before .before .before .before .before .before .before .before .before .before .before .before .before .before .before .before .before .before .is-off .ensures) (c .before .before .before .before .before .before .before .before .before .before .before .before .before .before .before .before .before .before .before .if1 .left))) _ (c .before .before .before .before .before .before .before .before .note .ensures)))) (c .before .before .before .before .before .before .before .before .before .before .before .reg .ensures) (c .before .before .put-reg .ensures) (c .before .before .before .before .ahead-of .ensures))))
+returns-3 c = rw (← (c .before .before .before .before .before .before .before .before .before .before .before .before .before .before .before .before .before .before .before .before .before .width-of .ensures), ← (c .before .before .before .before .before .before .before .before .before .before .before .before .before .before .before .before .before .before .before .before .before .before .operand-address .ensures)) (operand-go _ _ _ _ _ _ _ _ _ tt (on-is _ _ (c .before .before .before .before .before .before .before .before .before .before .before .before .before .before .before .before .before .before .before .before .is-off .ensures) (c .before .before .before .before .before .before .before .before .before .before .before .before .before .before .before .before .before .before .before .if1 .left)) _ (len-is _ _ _ _ _ _ _ (c .before .before .before .before .before .before .before .before .before .before .before .before .before .before .before .before .look-operand .ensures) ((c .before .before .before .before .before .before .before .before .before .before .before .before .before .before .before .before .before .bytes-of .ensures) .0)) _ _ _ _ _ _ ((c .before .before .before .before .before .before .before .before .before .before .before .before .before .before .found .given) .1) (found-note ((c .before .before .before .before .before .before .before .before .before .before .before .before .before .before .before .before .before .before .before .before .before .before .before .before .before .before .before .args .mem .now)) _ Load _ _ _ _ _ (len-is _ _ _ _ _ _ _ (c .before .before .before .before .before .before .before .before .before .before .before .before .before .before .before .before .look-operand .ensures) ((c .before .before .before .before .before .before .before .before .before .before .before .before .before .before .before .before .before .bytes-of .ensures) .0)) ((c .before .before .before .before .before .before .before .before .before .before .before .before .before .before .found .given) .1) (width-some (c .before .before .before .before .before .before .before .before .before .before .before .before .before .before .before .before .before .before .before .before .before .width-of .result)) (aligned-fits (c .before .before .before .before .before .before .before .before .before .before .before .before .before .before .before .before .before .before .before .before .before .width-of .result) _ (on-is _ _ (c .before .before .before .before .before .before .before .before .before .before .before .before .before .before .before .before .before .before .before .before .is-off .ensures) (c .before .before .before .before .before .before .before .before .before .before .before .before .before .before .before .before .before .before .before .if1 .left))) _ (c .before .before .before .before .before .before .before .before .note .ensures)) (loaded _ _ _ _ _ _ _ (taken-done _ _ _ _ _ _ _ _ _ _ _ (ap bytesOf (c .before .before .before .before .before .before .before .before .before .before .before .before .before .before .before .before .before .before .before .before .before .width-of .ensures)) (taken-at _ (c .before .before .before .before .before .before .before .before .before .before .before .before .before .before .before .before .before .before .before .before .before .width-of .result) _ _ _ _ ((c .before .before .before .before .before .before .before .before .before .before .before .before .before .before .before .before .before .before .before .before .before .before .before .before .before .before .before .args .mem .now)) _ _ (c .before .before .before .before .before .before .before .before .before .before .before .before .before .before .before .before .before .before .before .before .before .width-of .ensures) (c .before .before .before .before .before .before .before .before .before .before .take .ensures) (found-read ((c .before .before .before .before .before .before .before .before .before .before .before .before .before .before .before .before .before .before .before .before .before .before .before .before .before .before .before .args .mem .now)) _ Load _ _ _ _ _ (len-is _ _ _ _ _ _ _ (c .before .before .before .before .before .before .before .before .before .before .before .before .before .before .before .before .look-operand .ensures) ((c .before .before .before .before .before .before .before .before .before .before .before .before .before .before .before .before .before .bytes-of .ensures) .0)) ((c .before .before .before .before .before .before .before .before .before .before .before .before .before .before .found .given) .1) (width-some (c .before .before .before .before .before .before .before .before .before .before .before .before .before .before .before .before .before .before .before .before .before .width-of .result)) (aligned-fits (c .before .before .before .before .before .before .before .before .before .before .before .before .before .before .before .before .before .before .before .before .before .width-of .result) _ (on-is _ _ (c .before .before .before .before .before .before .before .before .before .before .before .before .before .before .before .before .before .before .before .before .is-off .ensures) (c .before .before .before .before .before .before .before .before .before .before .before .before .before .before .before .before .before .before .before .if1 .left))) _ (found-note ((c .before .before .before .before .before .before .before .before .before .before .before .before .before .before .before .before .before .before .before .before .before .before .before .before .before .before .before .args .mem .now)) _ Load _ _ _ _ _ (len-is _ _ _ _ _ _ _ (c .before .before .before .before .before .before .before .before .before .before .before .before .before .before .before .before .look-operand .ensures) ((c .before .before .before .before .before .before .before .before .before .before .before .before .before .before .before .before .before .bytes-of .ensures) .0)) ((c .before .before .before .before .before .before .before .before .before .before .before .before .before .before .found .given) .1) (width-some (c .before .before .before .before .before .before .before .before .before .before .before .before .before .before .before .before .before .before .before .before .before .width-of .result)) (aligned-fits (c .before .before .before .before .before .before .before .before .before .before .before .before .before .before .before .before .before .before .before .before .before .width-of .result) _ (on-is _ _ (c .before .before .before .before .before .before .before .before .before .before .before .before .before .before .before .before .before .before .before .before .is-off .ensures) (c .before .before .before .before .before .before .before .before .before .before .before .before .before .before .before .before .before .before .before .if1 .left))) _ (c .before .before .before .before .before .before .before .before .note .ensures)))) (c .before .before .before .before .before .before .before .before .before .before .before .reg .ensures) (c .before .before .put-reg .ensures) (c .before .before .before .before .ahead-of .ensures))))
 
 pub load-spec : {M : Type 1} → statement M
 load-spec =
@@ -121,7 +121,7 @@ load-spec =
     same-length
     returns
     bytes-of-requires
-    look-one-requires
+    look-operand-requires
     enum-known-found
     enum-told
     refusal-requires

@@ -7,7 +7,7 @@ use Rattle.rx_si.proofs.rx.pair.Lts as lts
 use Rattle.actions.proofs.pairs.work.Reads as work-reads
 use Rattle.actions.proofs.refusal.Reads as refusal-reads
 use Rattle.fields.proofs.flat.word_of.Reads as word-of-reads
-use Rattle.fields.proofs.look_one.Reads as look-one-reads
+use Rattle.fields.proofs.look_operand.Reads as look-operand-reads
 use Rattle.lookup.proofs.note.Reads as note-reads
 use Rattle.rx_si.proofs.rx.operand_address.Reads as operand-address-reads
 
@@ -23,8 +23,8 @@ same-length c = search needs
 returns-2 : tie.Need-returns-2
 returns-2 c = search pair-off
 
-look-one-requires : tie.Need-look-one-requires
-look-one-requires c κs = search needs
+look-operand-requires : tie.Need-look-operand-requires
+look-operand-requires c κs = search needs
 
 enum-known-found : tie.Need-enum-known-found
 enum-known-found c = search needs
@@ -42,10 +42,10 @@ same-length-3 : tie.Need-same-length-3
 same-length-3 c = search needs
 
 returns-3 : tie.Need-returns-3
-returns-3 c = pair-unfound _ _ _ _ _ _ (c .before .before .before .before .before .before .before .before .if1 .left) _ (c .before .before .before .before .before .before .operand-address .ensures) (c .before .before .before .before .before .if2 .left) _ (c .before .before .before .look-one .ensures) _ _ _ (c .refusal .ensures) ((c .before .enum-told .given) .1)
+returns-3 c = pair-unfound _ _ _ _ _ _ (c .before .before .before .before .before .before .before .before .if1 .left) _ (c .before .before .before .before .before .before .operand-address .ensures) (c .before .before .before .before .before .if2 .left) _ (c .before .before .before .look-operand .ensures) _ _ _ (c .refusal .ensures) ((c .before .enum-told .given) .1)
 
 word-of-requires : tie.Need-word-of-requires
-word-of-requires c κs = word-room (c .before .before .before .before .before .before .before .before .before .before .before .before .before .before .args .mem .now) _ _ _ _ (c .before .before .before .before .before .before .if2 .left) (c .before .before .before .before .look-one .ensures) ((c .before .before .found .given) .1)
+word-of-requires c κs = word-room (c .before .before .before .before .before .before .before .before .before .before .before .before .before .before .args .mem .now) _ _ _ _ _ (c .before .before .before .before .before .before .if2 .left) (c .before .before .before .before .look-operand .ensures) ((c .before .before .found .given) .1)
 
 work-requires : tie.Need-work-requires
 work-requires c κs = search needs
@@ -66,7 +66,7 @@ same-length-5 : tie.Need-same-length-5
 same-length-5 c = search needs
 
 returns-4 : tie.Need-returns-4
-returns-4 c = pair-done _ _ _ _ _ _ (c .before .before .before .before .before .before .before .before .before .before .before .before .before .before .before .before .before .before .before .if1 .left) _ (c .before .before .before .before .before .before .before .before .before .before .before .before .before .before .before .before .before .operand-address .ensures) (c .before .before .before .before .before .before .before .before .before .before .before .before .before .before .before .before .if2 .left) _ (c .before .before .before .before .before .before .before .before .before .before .before .before .before .before .look-one .ensures) _ ((c .before .before .before .before .before .before .before .before .before .before .before .before .found .given) .1) _ (c .before .before .before .before .before .before .before .before .before .word-of .ensures) _ _ (c .before .before .before .before .before .before .before .before .work .ensures) _ _ ((c .before .before .before .before .enum-told2 .given) .1) (c .before .before .note .ensures)
+returns-4 c = pair-done _ _ _ _ _ _ (c .before .before .before .before .before .before .before .before .before .before .before .before .before .before .before .before .before .before .before .if1 .left) _ (c .before .before .before .before .before .before .before .before .before .before .before .before .before .before .before .before .before .operand-address .ensures) (c .before .before .before .before .before .before .before .before .before .before .before .before .before .before .before .before .if2 .left) _ (c .before .before .before .before .before .before .before .before .before .before .before .before .before .before .look-operand .ensures) _ _ ((c .before .before .before .before .before .before .before .before .before .before .before .before .found .given) .1) _ (c .before .before .before .before .before .before .before .before .before .word-of .ensures) _ _ (c .before .before .before .before .before .before .before .before .work .ensures) _ _ ((c .before .before .before .before .enum-told2 .given) .1) (c .before .before .note .ensures)
 
 same-length-6 : tie.Need-same-length-6
 same-length-6 c = search needs
@@ -75,7 +75,7 @@ same-length-7 : tie.Need-same-length-7
 same-length-7 c = search needs
 
 returns-5 : tie.Need-returns-5
-returns-5 c = pair-refused _ _ _ _ _ _ (c .before .before .before .before .before .before .before .before .before .before .before .before .before .before .before .if1 .left) _ (c .before .before .before .before .before .before .before .before .before .before .before .before .before .operand-address .ensures) (c .before .before .before .before .before .before .before .before .before .before .before .before .if2 .left) _ (c .before .before .before .before .before .before .before .before .before .before .look-one .ensures) _ ((c .before .before .before .before .before .before .before .before .found .given) .1) _ (c .before .before .before .before .before .word-of .ensures) _ _ (c .before .before .before .before .work .ensures) _ _ ((c .enum-told3 .given) .1)
+returns-5 c = pair-refused _ _ _ _ _ _ (c .before .before .before .before .before .before .before .before .before .before .before .before .before .before .before .if1 .left) _ (c .before .before .before .before .before .before .before .before .before .before .before .before .before .operand-address .ensures) (c .before .before .before .before .before .before .before .before .before .before .before .before .if2 .left) _ (c .before .before .before .before .before .before .before .before .before .before .look-operand .ensures) _ _ ((c .before .before .before .before .before .before .before .before .found .given) .1) _ (c .before .before .before .before .before .word-of .ensures) _ _ (c .before .before .before .before .work .ensures) _ _ ((c .enum-told3 .given) .1)
 
 pub pair-spec : {M : Type 1} → statement M
 pair-spec =
@@ -85,7 +85,7 @@ pair-spec =
     operand-address-requires
     same-length
     returns-2
-    look-one-requires
+    look-operand-requires
     enum-known-found
     enum-told
     refusal-requires

@@ -19,7 +19,7 @@ use Rattle.rx_si.proofs.rx.operand_address.Reads as operand-address-rea
 use Rattle.fields.proofs.bytes_of.Reads as bytes-of-reads
 use Rattle.fields.proofs.flat.put_field.Reads as put-field-reads
 use Rattle.fields.proofs.is_off.Reads as is-off-reads
-use Rattle.fields.proofs.look_one.Reads as look-one-reads
+use Rattle.fields.proofs.look_operand.Reads as look-operand-reads
 use Rattle.lookup.proofs.note.Reads as note-reads
 use Rattle.lookup.proofs.note_written.Reads as note-written-reads
 
@@ -41,8 +41,8 @@ bytes-of-requires : tie.Need-bytes-of-requires
 bytes-of-requires c κs = search needs
 
 -- src/rx.rt:93:9
-look-one-requires : tie.Need-look-one-requires
-look-one-requires c κs = search needs
+look-operand-requires : tie.Need-look-operand-requires
+look-operand-requires c κs = rw ((c .bytes-of .ensures) .0) (aligned-fits (c .before .before .before .before .before .before .before .before .args .width) _ (on-is _ _ (c .before .before .before .is-off .ensures) (c .before .before .if1 .left)))
 
 -- src/rx.rt:94:18
 enum-known-found : tie.Need-enum-known-found
@@ -63,7 +63,7 @@ same-length c = search needs
 -- src/rx.rt:95:9
 returns-2 : tie.Need-returns-2
 unfolding rx storing
-returns-2 c = rw (← (c .before .before .before .before .before .before .before .before .operand-address .ensures)) (operand-stop _ _ _ _ _ _ _ _ _ tt (on-is _ _ (c .before .before .before .before .before .before .before .is-off .ensures) (c .before .before .before .before .before .before .if1 .left)) _ (len-is _ _ _ _ _ _ _ (c .before .before .before .look-one .ensures) ((c .before .before .before .before .bytes-of .ensures) .0)) _ _ _ (width-some (c .before .before .before .before .before .before .before .before .before .before .before .before .args .width)) (c .refusal .ensures) ((c .before .enum-told .given) .1))
+returns-2 c = rw (← (c .before .before .before .before .before .before .before .before .operand-address .ensures)) (operand-stop _ _ _ _ _ _ _ _ _ tt (on-is _ _ (c .before .before .before .before .before .before .before .is-off .ensures) (c .before .before .before .before .before .before .if1 .left)) _ (len-is _ _ _ _ _ _ _ (c .before .before .before .look-operand .ensures) ((c .before .before .before .before .bytes-of .ensures) .0)) _ _ _ (width-some (c .before .before .before .before .before .before .before .before .before .before .before .before .args .width)) (c .refusal .ensures) ((c .before .enum-told .given) .1))
 
 -- src/rx.rt:97:44
 reg-requires : tie.Need-reg-requires
@@ -71,7 +71,7 @@ reg-requires c κs = search needs
 
 -- src/rx.rt:97:5
 put-field-requires : tie.Need-put-field-requires
-put-field-requires c κs = found-inside ((c .before .before .before .before .before .before .before .before .before .before .before .before .before .before .args .mem .now)) _ Store _ _ _ _ (len-is _ _ _ _ _ _ _ (c .before .before .before .before .before .look-one .ensures) ((c .before .before .before .before .before .before .bytes-of .ensures) .0)) ((c .before .before .before .found .given) .1) (width-some (c .before .before .before .before .before .before .before .before .before .before .before .before .before .before .args .width)) (aligned-fits (c .before .before .before .before .before .before .before .before .before .before .before .before .before .before .args .width) _ (on-is _ _ (c .before .before .before .before .before .before .before .before .before .is-off .ensures) (c .before .before .before .before .before .before .before .before .if1 .left)))
+put-field-requires c κs = found-inside ((c .before .before .before .before .before .before .before .before .before .before .before .before .before .before .args .mem .now)) _ Store _ _ _ _ _ (len-is _ _ _ _ _ _ _ (c .before .before .before .before .before .look-operand .ensures) ((c .before .before .before .before .before .before .bytes-of .ensures) .0)) ((c .before .before .before .found .given) .1) (width-some (c .before .before .before .before .before .before .before .before .before .before .before .before .before .before .args .width)) (aligned-fits (c .before .before .before .before .before .before .before .before .before .before .before .before .before .before .args .width) _ (on-is _ _ (c .before .before .before .before .before .before .before .before .before .is-off .ensures) (c .before .before .before .before .before .before .before .before .if1 .left)))
 
 -- src/rx.rt:98:5
 note-requires : tie.Need-note-requires
@@ -96,7 +96,7 @@ same-length-3 c = search needs
 -- src/rx.rt:86:1
 returns-3 : tie.Need-returns-3
 unfolding rx storing reg
-returns-3 c = rw (← (c .before .before .before .before .before .before .before .before .before .before .before .before .before .before .before .before .before .before .before .before .before .before .operand-address .ensures), ← (c .before .before .before .before .before .before .before .before .before .before .before .before .reg .ensures), ← (c .ahead-of .ensures)) (operand-go _ _ _ _ _ _ _ _ _ tt (on-is _ _ (c .before .before .before .before .before .before .before .before .before .before .before .before .before .before .before .before .before .before .before .before .before .is-off .ensures) (c .before .before .before .before .before .before .before .before .before .before .before .before .before .before .before .before .before .before .before .before .if1 .left)) _ (len-is _ _ _ _ _ _ _ (c .before .before .before .before .before .before .before .before .before .before .before .before .before .before .before .before .before .look-one .ensures) ((c .before .before .before .before .before .before .before .before .before .before .before .before .before .before .before .before .before .before .bytes-of .ensures) .0)) _ _ _ _ _ ((c .before .before .before .before .before .before .before .before .before .before .before .before .before .before .before .found .given) .1) (found-note ((c .before .before .before .before .before .before .before .before .before .before .before .before .before .before .before .before .before .before .before .before .before .before .before .before .before .before .args .mem .now)) _ Store _ _ _ _ (len-is _ _ _ _ _ _ _ (c .before .before .before .before .before .before .before .before .before .before .before .before .before .before .before .before .before .look-one .ensures) ((c .before .before .before .before .before .before .before .before .before .before .before .before .before .before .before .before .before .before .bytes-of .ensures) .0)) ((c .before .before .before .before .before .before .before .before .before .before .before .before .before .before .before .found .given) .1) (width-some (c .before .before .before .before .before .before .before .before .before .before .before .before .before .before .before .before .before .before .before .before .before .before .before .before .before .before .args .width)) (aligned-fits (c .before .before .before .before .before .before .before .before .before .before .before .before .before .before .before .before .before .before .before .before .before .before .before .before .before .before .args .width) _ (on-is _ _ (c .before .before .before .before .before .before .before .before .before .before .before .before .before .before .before .before .before .before .before .before .before .is-off .ensures) (c .before .before .before .before .before .before .before .before .before .before .before .before .before .before .before .before .before .before .before .before .if1 .left))) _ (c .before .before .before .before .before .before .before .note .ensures)) (stored _ _ _ _ _ _ _ _ _ (found-write ((c .before .before .before .before .before .before .before .before .before .before .before .before .before .before .before .before .before .before .before .before .before .before .before .before .before .before .args .mem .now)) _ _ _ _ _ (len-is _ _ _ _ _ _ _ (c .before .before .before .before .before .before .before .before .before .before .before .before .before .before .before .before .before .look-one .ensures) ((c .before .before .before .before .before .before .before .before .before .before .before .before .before .before .before .before .before .before .bytes-of .ensures) .0)) ((c .before .before .before .before .before .before .before .before .before .before .before .before .before .before .before .found .given) .1) (width-some (c .before .before .before .before .before .before .before .before .before .before .before .before .before .before .before .before .before .before .before .before .before .before .before .before .before .before .args .width)) (aligned-fits (c .before .before .before .before .before .before .before .before .before .before .before .before .before .before .before .before .before .before .before .before .before .before .before .before .before .before .args .width) _ (on-is _ _ (c .before .before .before .before .before .before .before .before .before .before .before .before .before .before .before .before .before .before .before .before .before .is-off .ensures) (c .before .before .before .before .before .before .before .before .before .before .before .before .before .before .before .before .before .before .before .before .if1 .left))) _ _ _ _ (found-note ((c .before .before .before .before .before .before .before .before .before .before .before .before .before .before .before .before .before .before .before .before .before .before .before .before .before .before .args .mem .now)) _ Store _ _ _ _ (len-is _ _ _ _ _ _ _ (c .before .before .before .before .before .before .before .before .before .before .before .before .before .before .before .before .before .look-one .ensures) ((c .before .before .before .before .before .before .before .before .before .before .before .before .before .before .before .before .before .before .bytes-of .ensures) .0)) ((c .before .before .before .before .before .before .before .before .before .before .before .before .before .before .before .found .given) .1) (width-some (c .before .before .before .before .before .before .before .before .before .before .before .before .before .before .before .before .before .before .before .before .before .before .before .before .before .before .args .width)) (aligned-fits (c .before .before .before .before .before .before .before .before .before .before .before .before .before .before .before .before .before .before .before .before .before .before .before .before .before .before .args .width) _ (on-is _ _ (c .before .before .before .before .before .before .before .before .before .before .before .before .before .before .before .before .before .before .before .before .before .is-off .ensures) (c .before .before .before .before .before .before .before .before .before .before .before .before .before .before .before .before .before .before .before .before .if1 .left))) _ (c .before .before .before .before .before .before .before .note .ensures)) (c .before .before .before .before .before .before .before .before .before .before .before .put-field .ensures) (c .before .before .before .note-written .ensures)) refl))
+returns-3 c = rw (← (c .before .before .before .before .before .before .before .before .before .before .before .before .before .before .before .before .before .before .before .before .before .before .operand-address .ensures), ← (c .before .before .before .before .before .before .before .before .before .before .before .before .reg .ensures), ← (c .ahead-of .ensures)) (operand-go _ _ _ _ _ _ _ _ _ tt (on-is _ _ (c .before .before .before .before .before .before .before .before .before .before .before .before .before .before .before .before .before .before .before .before .before .is-off .ensures) (c .before .before .before .before .before .before .before .before .before .before .before .before .before .before .before .before .before .before .before .before .if1 .left)) _ (len-is _ _ _ _ _ _ _ (c .before .before .before .before .before .before .before .before .before .before .before .before .before .before .before .before .before .look-operand .ensures) ((c .before .before .before .before .before .before .before .before .before .before .before .before .before .before .before .before .before .before .bytes-of .ensures) .0)) _ _ _ _ _ _ ((c .before .before .before .before .before .before .before .before .before .before .before .before .before .before .before .found .given) .1) (found-note ((c .before .before .before .before .before .before .before .before .before .before .before .before .before .before .before .before .before .before .before .before .before .before .before .before .before .before .args .mem .now)) _ Store _ _ _ _ _ (len-is _ _ _ _ _ _ _ (c .before .before .before .before .before .before .before .before .before .before .before .before .before .before .before .before .before .look-operand .ensures) ((c .before .before .before .before .before .before .before .before .before .before .before .before .before .before .before .before .before .before .bytes-of .ensures) .0)) ((c .before .before .before .before .before .before .before .before .before .before .before .before .before .before .before .found .given) .1) (width-some (c .before .before .before .before .before .before .before .before .before .before .before .before .before .before .before .before .before .before .before .before .before .before .before .before .before .before .args .width)) (aligned-fits (c .before .before .before .before .before .before .before .before .before .before .before .before .before .before .before .before .before .before .before .before .before .before .before .before .before .before .args .width) _ (on-is _ _ (c .before .before .before .before .before .before .before .before .before .before .before .before .before .before .before .before .before .before .before .before .before .is-off .ensures) (c .before .before .before .before .before .before .before .before .before .before .before .before .before .before .before .before .before .before .before .before .if1 .left))) _ (c .before .before .before .before .before .before .before .note .ensures)) (stored _ _ _ _ _ _ _ _ _ (found-write ((c .before .before .before .before .before .before .before .before .before .before .before .before .before .before .before .before .before .before .before .before .before .before .before .before .before .before .args .mem .now)) _ _ _ _ _ _ (len-is _ _ _ _ _ _ _ (c .before .before .before .before .before .before .before .before .before .before .before .before .before .before .before .before .before .look-operand .ensures) ((c .before .before .before .before .before .before .before .before .before .before .before .before .before .before .before .before .before .before .bytes-of .ensures) .0)) ((c .before .before .before .before .before .before .before .before .before .before .before .before .before .before .before .found .given) .1) (width-some (c .before .before .before .before .before .before .before .before .before .before .before .before .before .before .before .before .before .before .before .before .before .before .before .before .before .before .args .width)) (aligned-fits (c .before .before .before .before .before .before .before .before .before .before .before .before .before .before .before .before .before .before .before .before .before .before .before .before .before .before .args .width) _ (on-is _ _ (c .before .before .before .before .before .before .before .before .before .before .before .before .before .before .before .before .before .before .before .before .before .is-off .ensures) (c .before .before .before .before .before .before .before .before .before .before .before .before .before .before .before .before .before .before .before .before .if1 .left))) _ _ _ _ (found-note ((c .before .before .before .before .before .before .before .before .before .before .before .before .before .before .before .before .before .before .before .before .before .before .before .before .before .before .args .mem .now)) _ Store _ _ _ _ _ (len-is _ _ _ _ _ _ _ (c .before .before .before .before .before .before .before .before .before .before .before .before .before .before .before .before .before .look-operand .ensures) ((c .before .before .before .before .before .before .before .before .before .before .before .before .before .before .before .before .before .before .bytes-of .ensures) .0)) ((c .before .before .before .before .before .before .before .before .before .before .before .before .before .before .before .found .given) .1) (width-some (c .before .before .before .before .before .before .before .before .before .before .before .before .before .before .before .before .before .before .before .before .before .before .before .before .before .before .args .width)) (aligned-fits (c .before .before .before .before .before .before .before .before .before .before .before .before .before .before .before .before .before .before .before .before .before .before .before .before .before .before .args .width) _ (on-is _ _ (c .before .before .before .before .before .before .before .before .before .before .before .before .before .before .before .before .before .before .before .before .before .is-off .ensures) (c .before .before .before .before .before .before .before .before .before .before .before .before .before .before .before .before .before .before .before .before .if1 .left))) _ (c .before .before .before .before .before .before .before .note .ensures)) (c .before .before .before .before .before .before .before .before .before .before .before .put-field .ensures) (c .before .before .before .note-written .ensures)) refl))
 
 pub store-spec : {M : Type 1} → statement M
 store-spec =
@@ -106,7 +106,7 @@ store-spec =
     is-off-requires
     returns
     bytes-of-requires
-    look-one-requires
+    look-operand-requires
     enum-known-found
     enum-told
     refusal-requires

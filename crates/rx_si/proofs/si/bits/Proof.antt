@@ -1,6 +1,6 @@
 use Rattle.pages.specs.declared.Access.the-variants.{Load, Store}
 use Rattle.actions.proofs.Executed.{byte-no, byte-yes}
-use Rattle.fields.proofs.Found.{one-byte, byte-inside, byte-read, byte-write}
+use Rattle.fields.proofs.Found.{byte-inside, byte-read, byte-write}
 use Rattle.machine.specs.Si.{si}
 use Rattle.machine.specs.Prog.{done, interp, finished}
 use mathlib.Core.Path.{refl, sym, _∙_, ap}
@@ -15,7 +15,7 @@ use Rattle.rx_si.proofs.si.operand_address.Reads as operand-address-rea
 use Rattle.rx_si.proofs.si.wide.Reads as wide-reads
 use Rattle.fields.proofs.flat.byte_of.Reads as byte-of-reads
 use Rattle.fields.proofs.flat.put_byte.Reads as put-byte-reads
-use Rattle.fields.proofs.look_one.Reads as look-one-reads
+use Rattle.lookup.proofs.look_up.Reads as look-up-reads
 use Rattle.lookup.proofs.note.Reads as note-reads
 use Rattle.lookup.proofs.note_written.Reads as note-written-reads
 use Rattle.arithmetic.proofs.logic_byte.Reads as logic-byte-reads
@@ -26,8 +26,8 @@ operand-address-requires : tie.Need-operand-address-requires
 operand-address-requires c κs = search needs
 
 -- src/si.rt:68:9
-look-one-requires : tie.Need-look-one-requires
-look-one-requires c κs = search needs
+look-up-requires : tie.Need-look-up-requires
+look-up-requires c κs = search needs
 
 -- src/si.rt:69:18
 enum-known-found : tie.Need-enum-known-found
@@ -48,11 +48,11 @@ same-length c = search needs
 -- src/si.rt:70:9
 returns : tie.Need-returns
 unfolding si
-returns c = rw (← (c .before .before .before .before .before .operand-address .ensures)) (byte-no _ _ _ _ _ tt _ _ _ ((c .before .before .before .look-one .ensures) ∙ one-byte _ _ _ _) _ _ _ (c .refusal .ensures) ((c .before .enum-told .given) .1))
+returns c = rw (← (c .before .before .before .before .before .operand-address .ensures)) (byte-no _ _ _ _ _ tt _ _ _ (c .before .before .before .look-up .ensures) _ _ _ (c .refusal .ensures) ((c .before .enum-told .given) .1))
 
 -- src/si.rt:72:35
 byte-of-requires : tie.Need-byte-of-requires
-byte-of-requires c κs = byte-inside ((c .before .before .before .before .before .before .before .before .before .before .args .mem .now)) _ Store _ _ _ (c .before .before .before .before .look-one .ensures) ((c .before .before .found .given) .1)
+byte-of-requires c κs = byte-inside ((c .before .before .before .before .before .before .before .before .before .before .args .mem .now)) _ Store _ _ _ _ (c .before .before .before .before .look-up .ensures) ((c .before .before .found .given) .1)
 
 -- src/si.rt:72:9
 logic-byte-requires : tie.Need-logic-byte-requires
@@ -60,7 +60,7 @@ logic-byte-requires c κs = search needs
 
 -- src/si.rt:73:5
 put-byte-requires : tie.Need-put-byte-requires
-put-byte-requires c κs = byte-inside ((c .before .before .before .before .before .before .before .before .before .before .before .before .before .args .mem .now)) _ Store _ _ _ (c .before .before .before .before .before .before .before .look-one .ensures) ((c .before .before .before .before .before .found .given) .1)
+put-byte-requires c κs = byte-inside ((c .before .before .before .before .before .before .before .before .before .before .before .before .before .args .mem .now)) _ Store _ _ _ _ (c .before .before .before .before .before .before .before .look-up .ensures) ((c .before .before .before .before .before .found .given) .1)
 
 -- src/si.rt:74:5
 note-requires : tie.Need-note-requires
@@ -93,14 +93,14 @@ same-length-3 c = search needs
 -- src/si.rt:64:1
 returns-2 : tie.Need-returns-2
 unfolding si
-returns-2 c = rw (← (c .before .before .before .before .before .before .before .before .before .before .before .before .before .before .before .before .before .before .before .before .before .before .before .operand-address .ensures), ← (c .before .before .ahead-of .ensures)) (byte-yes _ _ _ _ _ tt _ _ _ ((c .before .before .before .before .before .before .before .before .before .before .before .before .before .before .before .before .before .before .before .before .before .look-one .ensures) ∙ one-byte _ _ _ _) _ _ _ _ ((c .before .before .before .before .before .before .before .before .before .before .before .before .before .before .before .before .before .before .before .found .given) .1) (c .before .before .before .before .before .before .before .before .before .note .ensures) (unfold interp in rw (← ((c .before .before .before .before .before .before .before .before .before .before .before .before .before .before .before .before .byte-of .ensures) ∙ byte-read ((c .before .before .before .before .before .before .before .before .before .before .before .before .before .before .before .before .before .before .before .before .before .before .before .before .before .before .before .args .mem .now)) _ Store _ _ _ (c .before .before .before .before .before .before .before .before .before .before .before .before .before .before .before .before .before .before .before .before .before .look-one .ensures) ((c .before .before .before .before .before .before .before .before .before .before .before .before .before .before .before .before .before .before .before .found .given) .1) _ (c .before .before .before .before .before .before .before .before .before .note .ensures)), ← (c .before .before .before .before .before .before .before .before .before .before .before .before .before .before .before .logic-byte .ensures), ← byte-write ((c .before .before .before .before .before .before .before .before .before .before .before .before .before .before .before .before .before .before .before .before .before .before .before .before .before .before .before .args .mem .now)) _ _ _ _ (c .before .before .before .before .before .before .before .before .before .before .before .before .before .before .before .before .before .before .before .before .before .look-one .ensures) ((c .before .before .before .before .before .before .before .before .before .before .before .before .before .before .before .before .before .before .before .found .given) .1) _ _ _ _ (c .before .before .before .before .before .before .before .before .before .note .ensures) (c .before .before .before .before .before .before .before .before .before .before .before .before .before .put-byte .ensures) (c .before .before .before .before .before .note-written .ensures), (c .zero-code .ensures), (c .before .wide .ensures))))
+returns-2 c = rw (← (c .before .before .before .before .before .before .before .before .before .before .before .before .before .before .before .before .before .before .before .before .before .before .before .operand-address .ensures), ← (c .before .before .ahead-of .ensures)) (byte-yes _ _ _ _ _ tt _ _ _ (c .before .before .before .before .before .before .before .before .before .before .before .before .before .before .before .before .before .before .before .before .before .look-up .ensures) _ _ _ _ _ ((c .before .before .before .before .before .before .before .before .before .before .before .before .before .before .before .before .before .before .before .found .given) .1) (c .before .before .before .before .before .before .before .before .before .note .ensures) (unfold interp in rw (← ((c .before .before .before .before .before .before .before .before .before .before .before .before .before .before .before .before .byte-of .ensures) ∙ byte-read ((c .before .before .before .before .before .before .before .before .before .before .before .before .before .before .before .before .before .before .before .before .before .before .before .before .before .before .before .args .mem .now)) _ Store _ _ _ _ (c .before .before .before .before .before .before .before .before .before .before .before .before .before .before .before .before .before .before .before .before .before .look-up .ensures) ((c .before .before .before .before .before .before .before .before .before .before .before .before .before .before .before .before .before .before .before .found .given) .1) _ (c .before .before .before .before .before .before .before .before .before .note .ensures)), ← (c .before .before .before .before .before .before .before .before .before .before .before .before .before .before .before .logic-byte .ensures), ← byte-write ((c .before .before .before .before .before .before .before .before .before .before .before .before .before .before .before .before .before .before .before .before .before .before .before .before .before .before .before .args .mem .now)) _ _ _ _ _ (c .before .before .before .before .before .before .before .before .before .before .before .before .before .before .before .before .before .before .before .before .before .look-up .ensures) ((c .before .before .before .before .before .before .before .before .before .before .before .before .before .before .before .before .before .before .before .found .given) .1) _ _ _ _ (c .before .before .before .before .before .before .before .before .before .note .ensures) (c .before .before .before .before .before .before .before .before .before .before .before .before .before .put-byte .ensures) (c .before .before .before .before .before .note-written .ensures), (c .zero-code .ensures), (c .before .wide .ensures))))
 
 pub bits-spec : {M : Type 1} → statement M
 bits-spec =
     tie.close
     (tie.spec
     operand-address-requires
-    look-one-requires
+    look-up-requires
     enum-known-found
     enum-told
     refusal-requires
