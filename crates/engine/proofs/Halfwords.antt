@@ -5,6 +5,7 @@ use native.Mathlib.Nat.{add-zero}
 use mathlib.Core.Path.{_≡_, refl, sym, _∙_, ap}
 use mathlib.Core.Bool.{Bool, true, false}
 use mathlib.Core.List.{List}
+use lib.Dec.{ltb}
 use lib.ListN.{length}
 use Rattle.pages.specs.declared.Access.the-variants.{Fetch}
 use Rattle.pages.specs.declared.Cause.{Cause}
@@ -14,18 +15,19 @@ use Rattle.pages.specs.Word.{next, pageOf, accessed}
 use Rattle.pages.specs.Tests.{numberOf}
 use Rattle.pages.specs.Look.{lookOf, verdictOf}
 use Rattle.pages.specs.Framed.{Framed, framedOf, accessedAt, noted}
-use Rattle.pages.proofs.LookLaws.{refused-place}
-use Rattle.pages.proofs.ReachLaws.{reach-behind, reach-next, reach-page}
+use Rattle.pages.proofs.LookLaws.{refused-place, any-load}
+use Rattle.pages.proofs.ReachLaws.{reach-behind, reach-inside, reach-next, reach-page}
 use Rattle.pages.proofs.Marks.{look-quiet, accessed-quiet, accessed-again}
 use Rattle.machine.specs.Prog.{Prog, done, Answer, finished, refused, interp}
 use Rattle.machine.specs.Fields.{halfword}
 use Rattle.machine.specs.Store.{framed}
 use Rattle.machine.proofs.MarksLast.{blind}
 use Rattle.machine.proofs.Fetches.{thenOn, half-then, half-refused, half-cut, half-fetched}
-use Rattle.fields.specs.Direct.{orElse, lookField, lookOne, readField}
+use Rattle.fields.specs.Direct.{orElse, lookField, lookOne, readField, flat}
 use Rattle.fields.proofs.Bridge.{afterLook, gets-is}
-use Rattle.fields.proofs.Reached.{reach-one}
-use Rattle.engine.specs.Entry.{markedIf, halfMarks, lookWanted, wantedMarks, wantedHalf}
+use Rattle.fields.proofs.Reached.{reach-one, reach-read}
+use Rattle.fields.proofs.Found.{whole-first}
+use Rattle.engine.specs.Entry.{halvesOf, markedIf, halfMarks, lookWanted, wantedMarks, wantedHalf}
 
 -- what follows a look-up that has set its marks: a refusal, or the rest, both from the store as it is
 abbrev pub fromThere : {R : Type 0} → Look → ℕ → (ℕ → Prog R) → Framed → Answer R Framed
@@ -103,3 +105,45 @@ module _ (map : List ℕ) (size a : ℕ) (first : Look) (e1 : first ≡ lookOf m
           → (At x k ≡ lookOne map size Fetch a 2) × (map2 ≡ halfMarks map size a)
       unfolding lookOne lookField halfMarks
       look-both y z map2 f m2 = (rw (← e1, f1, ← unmarked, f), rw (← e1, f1, ← unmarked, f) (m2 ∙ rw (m1, eb)))
+
+-- the marks of a halfword are not seen
+quiet : (map : List ℕ) (size a b : ℕ) → lookOf (accessedAt map a) size Fetch b ≡ lookOf map size Fetch b
+unfolding accessedAt
+quiet map size a b = look-quiet accessed accessed-quiet map (pageOf a) size Fetch b
+
+half-quiet : (map : List ℕ) (size a b : ℕ) → lookOf (halfMarks map size a) size Fetch b ≡ lookOf map size Fetch b
+unfolding halfMarks
+half-quiet map size a b = go (lookOf map size Fetch a) (lookOf map size Fetch (next a))
+  where
+    go : (l m : Look) → lookOf (markedIf l (markedIf m (accessedAt (accessedAt map a) (next a)) (accessedAt map a)) map) size Fetch b ≡ lookOf map size Fetch b
+    go (Refused c p) m = refl
+    go (At r i) (Refused c p) = quiet map size a b
+    go (At r i) (At q j) = quiet (accessedAt map a) size (next a) b ∙ quiet map size a b
+
+-- so a halfword that the operation has stays where its look-up found it; of one that it lacks nothing was reached
+wanted-there : (b : Bool) (map : List ℕ) (size a : ℕ) (l : Look) (map′ : List ℕ) → l ≡ lookWanted b map size a → map′ ≡ wantedMarks b map size a
+    → (r k : ℕ) → l ≡ At r k → 2 ≤ k → lookOf map′ size Fetch a ≡ At r k
+wanted-there true map size a l map′ e m r k f h =
+    ap (λ (x : List ℕ). lookOf x size Fetch a) m ∙ half-quiet map size a a ∙ whole-first map size Fetch a 2 r k (sym e ∙ f)
+wanted-there false map size a l map′ e m r k f h =
+    let z : _≡_ {A = Look} (At 0 0) (At r k) = sym e ∙ f in
+    let y : _≡_ {A = ℕ} 0 k = cc in
+    absurd (omega arith)
+
+pub first-there : (map : List ℕ) (size a : ℕ) (l : Look) (map′ : List ℕ) → l ≡ lookOne map size Fetch a 2 → map′ ≡ halfMarks map size a
+    → (r k : ℕ) → l ≡ At r k → 2 ≤ k → lookOf map′ size Fetch a ≡ At r k
+first-there = wanted-there true
+
+-- the same by what the code has in hand: of n halfwords the one behind m, and the map as it then is
+pub further-there : (m n h : ℕ) → n ≡ halvesOf h → (map x : List ℕ) → map ≡ x → (size a : ℕ) (l : Look) (map′ : List ℕ)
+    → l ≡ lookWanted (ltb m n) map size a → map′ ≡ wantedMarks (ltb m n) map size a
+    → (r k : ℕ) → l ≡ At r k → 2 ≤ k → lookOf map′ size Fetch a ≡ At r k
+further-there m n h en map x em size a l map′ = wanted-there (ltb m n) map size a l map′
+
+-- read there
+module _ (mem map : List ℕ) (a r k : ℕ) (e : lookOf map (length mem) Fetch a ≡ At r k) (h : 2 ≤ k) where
+  pub there-inside : r + 2 ≤ length mem
+  there-inside = omega (arith, reach-inside map (length mem) Fetch a r k e)
+
+  pub there-read : flat mem r 2 0 ≡ readField (framedOf mem map) a 2 0
+  there-read = reach-read mem map a r k (any-load map (length mem) Fetch a r k e) 2 h 0

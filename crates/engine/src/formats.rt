@@ -9,8 +9,12 @@ use pages::Look;
 ghost use mathlib.Core.Path.{_≡_};
 ghost use Rattle.pages.specs.Framed.{framedOf};
 ghost use Rattle.actions.specs.Answered.{told, doing};
-ghost use Rattle.fields.specs.Direct.{lookOne};
+ghost use Prim.Native.Nat.{_≤_};
+ghost use lib.ListN.{length};
+ghost use Rattle.fields.specs.Direct.{lookOne, readField};
 ghost use Rattle.pages.specs.declared.Access.the-variants.{Fetch};
+ghost use Rattle.pages.specs.declared.Look.the-variants.{At};
+ghost use Rattle.pages.specs.Look.{lookOf};
 ghost use Rattle.engine.specs.Entry.{halvesOf, stopOf, halfMarks, lookWanted, wantedMarks, fetched, fetching, whole};
 
 // How many halfwords are fetched, by the first: one only of an operation that is not known. The known ones of four and six bytes are bits,
@@ -69,6 +73,18 @@ fn look_wanted(map: &mut [u16], size: usize, at: u32, wanted: bool) -> Look
     Look::At(0, 0)
 }
 
+// The halfword at an address, where its look-up, if it reached two bytes, found it. (Reaching fewer, it is read through the map: one that
+// was not wanted, or whose bytes have different pages.)
+fn half_found(mem: &[u8], map: &[u16], at: u32, r: usize, reach: u32) -> u16
+    requires { ⌜ (2 ≤ reach → lookOf (now map) (length (now mem)) Fetch at ≡ At r reach) ⌝ }
+    ensures { λ h. ⌜ h ≡ readField (framedOf (now (mem .entry)) (now (map .entry))) at 2 0 ⌝ }
+{
+    if 2 <= reach {
+        return fields::flat::half_of(mem, r);
+    }
+    fields::read_half(mem, map, at)
+}
+
 // The halfwords from the counter on, each looked up by itself, in document 01's order: the first refusal is handed on at once, and the pages
 // of those before it have their marks.
 fn text_each(mem: &[u8], map: &mut [u16], pc: u32) -> Fetched
@@ -76,23 +92,23 @@ fn text_each(mem: &[u8], map: &mut [u16], pc: u32) -> Fetched
 {
     let size = mem.len();
     let first = look_half(map, size, pc);
-    let Look::At(_, _) = first else {
+    let Look::At(r1, reach1) = first else {
         return stop_of(first);
     };
-    let h1 = fields::read_half(mem, map, pc);
+    let h1 = half_found(mem, map, pc, r1, reach1);
     let n = halves_of(h1);
     let on = lookup::past_of(pc, 2);
     let second = look_wanted(map, size, on, 1 < n);
-    let Look::At(_, _) = second else {
+    let Look::At(r2, reach2) = second else {
         return stop_of(second);
     };
-    let h2 = fields::read_half(mem, map, on);
+    let h2 = half_found(mem, map, on, r2, reach2);
     let last = lookup::past_of(pc, 4);
     let third = look_wanted(map, size, last, 2 < n);
-    let Look::At(_, _) = third else {
+    let Look::At(r3, reach3) = third else {
         return stop_of(third);
     };
-    let h3 = fields::read_half(mem, map, last);
+    let h3 = half_found(mem, map, last, r3, reach3);
     Fetched::Whole(h1, h2, h3)
 }
 

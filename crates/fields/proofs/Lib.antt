@@ -6,3 +6,4 @@ pub mod Bridge
 pub mod MarkedOnce
 pub mod Reached
 pub mod Found
+pub mod Cleared

@@ -1,5 +1,6 @@
 -- Fields of bytes, directly: looked up in the store as it stands, noted, read, written, moved and compared.
 use Prim.Native.Nat.{ℕ, zero, suc, _+_, _-_, _*_, _/_, _%_, _^_}
+use mathlib.Core.Path.{_≡_}
 use mathlib.Core.List.{List, [], _∷_}
 use lib.Dec.{eqb, ltb}
 use lib.ListN.{length, getD, set}
@@ -31,6 +32,10 @@ lookField map size acc a (suc n) rest = orElse (lookOf map size acc a) (lookFiel
 unfoldable pub lookFields : List ℕ → ℕ → List Field → Look → Look
 lookFields map size [] rest = rest
 lookFields map size (f ∷ fs) rest = lookField map size (f .access) (f .at) (f .len) (lookFields map size fs rest)
+
+-- no byte of the field is refused
+abbrev pub Clear : List ℕ → ℕ → Access → ℕ → ℕ → Type 0
+Clear map size acc a n = (rest : Look) → lookField map size acc a n rest ≡ rest
 
 -- one field: the first refusal, or the look-up of its first byte
 unfoldable pub lookOne : List ℕ → ℕ → Access → ℕ → ℕ → Look

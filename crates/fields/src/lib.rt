@@ -15,7 +15,7 @@ ghost use lib.ListN.{length};
 ghost use Rattle.machine.specs.Fields.{bytesOf};
 ghost use Rattle.pages.specs.Framed.{framedOf};
 ghost use Rattle.pages.specs.Look.{lookOf};
-ghost use Rattle.fields.specs.Direct.{inPage, lookFields, lookOne, noteField, readField, writeField, moveField, compareField, flatMove, flatCompare};
+ghost use Rattle.fields.specs.Direct.{inPage, lookFields, lookOne, noteField, readField, moveField, compareField, flatMove, flatCompare};
 
 // So many bytes from an address on, and what they are wanted for.
 pub struct Field {
@@ -157,59 +157,6 @@ pub fn read_half(mem: &[u8], map: &[u16], at: u32) -> u16
         }
     }
     half_each(mem, map, at)
-}
-
-fn word_each(mem: &[u8], map: &[u16], at: u32) -> u32
-    ensures { λ r. ⌜ r ≡ readField (framedOf (now (mem .entry)) (now (map .entry))) at 4 0 ⌝ }
-{
-    let high = half_each(mem, map, at);
-    let low = half_each(mem, map, lookup::next_of(lookup::next_of(at)));
-    high as u32 * 65536 + low as u32
-}
-
-pub fn read_word(mem: &[u8], map: &[u16], at: u32) -> u32
-    ensures { λ r. ⌜ r ≡ readField (framedOf (now (mem .entry)) (now (map .entry))) at 4 0 ⌝ }
-{
-    let found = lookup::look_up(map, mem.len(), Access::Load, at);
-    if let Look::At(r, reach) = found {
-        if 4 <= reach {
-            return flat::word_of(mem, r);
-        }
-    }
-    word_each(mem, map, at)
-}
-
-fn write_half(mem: &mut [u8], map: &mut [u16], at: u32, v: u16)
-    ensures { λ _. ⌜ framedOf (now (mem .exit)) (now (map .exit)) ≡ writeField (framedOf (now (mem .entry)) (now (map .entry))) at 2 v ⌝ }
-{
-    lookup::write_byte(mem, map, at, (v / 256) as u8);
-    lookup::write_byte(mem, map, lookup::next_of(at), (v % 256) as u8);
-}
-
-fn word_put_each(mem: &mut [u8], map: &mut [u16], at: u32, v: u32)
-    ensures { λ _. ⌜ framedOf (now (mem .exit)) (now (map .exit)) ≡ writeField (framedOf (now (mem .entry)) (now (map .entry))) at 4 v ⌝ }
-{
-    write_half(mem, map, at, (v / 65536) as u16);
-    write_half(
-        mem,
-        map,
-        lookup::next_of(lookup::next_of(at)),
-        (v % 65536) as u16,
-    );
-}
-
-pub fn write_word(mem: &mut [u8], map: &mut [u16], at: u32, v: u32)
-    ensures { λ _. ⌜ framedOf (now (mem .exit)) (now (map .exit)) ≡ writeField (framedOf (now (mem .entry)) (now (map .entry))) at 4 v ⌝ }
-{
-    let found = lookup::look_up(map, mem.len(), Access::Store, at);
-    if let Look::At(r, reach) = found {
-        if 4 <= reach {
-            flat::put_word(mem, r, v);
-            lookup::note_written(map, at);
-            return;
-        }
-    }
-    word_put_each(mem, map, at, v);
 }
 
 // Piece by piece, left to right: as many bytes at a time as both look-ups reach. (Byte by byte from a byte on that is refused: nobody

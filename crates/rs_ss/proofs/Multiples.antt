@@ -12,12 +12,12 @@ use Rattle.fields.specs.Direct.{readField, writeField}
 use Rattle.fields.proofs.Bridge.{gets-is, puts-is}
 use Rattle.actions.specs.declared.Now.{Now}
 use Rattle.actions.specs.Answered.{cpuOf}
-use Rattle.rs_ss.specs.Multiple.{filled, spilled}
+use Rattle.rs_ss.specs.Multiple.{words, filled, spilled}
 
 -- n registers filled from storage, and stored there
 fills-is : (n r a : ℕ) (regs : List ℕ) (next : Now) (kept s : Framed)
     → interp framed (fills n r a (cpuOf regs next)) kept s ≡ finished (cpuOf (filled s n r a regs) next) s
-unfolding fills interp filled
+unfolding fills interp words filled
 fills-is zero r a regs next kept s = refl
 fills-is (suc n) r a regs next kept s =
     gets-is a 4 0 (λ v. fills n (nextReg r) (nextWord a) (withReg (cpuOf regs next) r v)) kept s
@@ -32,7 +32,7 @@ fills-done n r a regs regs′ next kept s c ec er =
 
 pub spills-is : (n r a : ℕ) (regs : List ℕ) (c : Now) (k : Prog Cpu) (kept s : Framed)
     → interp framed (spills n r a (cpuOf regs c) k) kept s ≡ interp framed k kept (spilled regs n r a s)
-unfolding spills spilled reg
+unfolding spills words spilled reg
 spills-is zero r a regs c k kept s = refl
 spills-is (suc n) r a regs c k kept s =
     puts-is a 4 (getD regs r 0) (spills n (nextReg r) (nextWord a) (cpuOf regs c) k) kept s

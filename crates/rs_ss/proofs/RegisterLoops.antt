@@ -1,52 +1,32 @@
--- The loops over registers, a turn at a time.
-use Prim.Native.Nat.{ℕ, zero, suc, _+_, _-_, _<_, _≤_}
+-- Registers and words, one after the other: a turn at a time, and in two parts.
+use Prim.Native.Nat.{ℕ, zero, suc, _+_, _-_, _*_, _%_, _<_, _≤_}
 use native.Mathlib.Omega.{arith}
-use mathlib.Core.Path.{_≡_, refl}
-use mathlib.Core.List.{List}
-use lib.ListN.{getD, set}
-use Rattle.pages.specs.Framed.{Framed}
+use mathlib.Core.Path.{_≡_, refl, _∙_}
 use Rattle.machine.specs.Rs.{nextReg, nextWord}
-use Rattle.fields.specs.Direct.{readField, writeField, flat, flatPut}
 use Rattle.fields.proofs.ByteLoops.{pred-suc}
-use Rattle.rs_ss.specs.Multiple.{filled, spilled, filledAt, spilledAt}
+use Rattle.rs_ss.specs.Multiple.{words}
 
-pub fill-turn : (s : Framed) (left r a : ℕ) (regs : List ℕ) → 0 < left
-    → filled s left r a regs ≡ filled s (left - 1) (nextReg r) (nextWord a) (set regs r (readField s a 4 0))
-unfolding filled
-fill-turn s zero r a regs h = absurd (omega arith)
-fill-turn s (suc k) r a regs h = rw pred-suc
+module _ {X : Type 0} (on : ℕ → ℕ) (each : ℕ → ℕ → X → X) where
+  pub words-turn : (left r a : ℕ) (x : X) → 0 < left → words on each left r a x ≡ words on each (left - 1) (nextReg r) (on a) (each r a x)
+  unfolding words
+  words-turn zero r a x h = absurd (omega arith)
+  words-turn (suc k) r a x h = rw pred-suc
 
-pub fill-none : (s : Framed) (left r a : ℕ) (regs : List ℕ) → left ≤ 0 → filled s left r a regs ≡ regs
-unfolding filled
-fill-none s left r a regs h = let z : left ≡ 0 = omega arith in rw z
+  pub words-none : (left r a : ℕ) (x : X) → left ≤ 0 → words on each left r a x ≡ x
+  unfolding words
+  words-none left r a x h = let z : left ≡ 0 = omega arith in rw z
 
-pub spill-turn : (regs : List ℕ) (left r a : ℕ) (s : Framed) → 0 < left
-    → spilled regs left r a s ≡ spilled regs (left - 1) (nextReg r) (nextWord a) (writeField s a 4 (getD regs r 0))
-unfolding spilled
-spill-turn regs zero r a s h = absurd (omega arith)
-spill-turn regs (suc k) r a s h = rw pred-suc
-
-pub spill-none : (regs : List ℕ) (left r a : ℕ) (s : Framed) → left ≤ 0 → spilled regs left r a s ≡ s
-unfolding spilled
-spill-none regs left r a s h = let z : left ≡ 0 = omega arith in rw z
-
--- by real address
-pub fill-at-turn : (mem : List ℕ) (left r a : ℕ) (regs : List ℕ) → 0 < left
-    → filledAt mem left r a regs ≡ filledAt mem (left - 1) (nextReg r) (a + 4) (set regs r (flat mem a 4 0))
-unfolding filledAt
-fill-at-turn mem zero r a regs h = absurd (omega arith)
-fill-at-turn mem (suc k) r a regs h = rw pred-suc
-
-pub fill-at-none : (mem : List ℕ) (left r a : ℕ) (regs : List ℕ) → left ≤ 0 → filledAt mem left r a regs ≡ regs
-unfolding filledAt
-fill-at-none mem left r a regs h = let z : left ≡ 0 = omega arith in rw z
-
-pub spill-at-turn : (regs : List ℕ) (left r a : ℕ) (mem : List ℕ) → 0 < left
-    → spilledAt regs left r a mem ≡ spilledAt regs (left - 1) (nextReg r) (a + 4) (flatPut mem a 4 (getD regs r 0))
-unfolding spilledAt
-spill-at-turn regs zero r a mem h = absurd (omega arith)
-spill-at-turn regs (suc k) r a mem h = rw pred-suc
-
-pub spill-at-none : (regs : List ℕ) (left r a : ℕ) (mem : List ℕ) → left ≤ 0 → spilledAt regs left r a mem ≡ mem
-unfolding spilledAt
-spill-at-none regs left r a mem h = let z : left ≡ 0 = omega arith in rw z
+-- the first n of them, and on from there
+pub words-parts : {X : Type 0} (each : ℕ → ℕ → X → X) (n left r a : ℕ) (x : X) → 0 < n → n ≤ left
+    → words nextWord each left r a x
+    ≡ words nextWord each (left - n) ((r + n) % 16) ((a + n * 4) % 16777216) (words nextWord each n r a x)
+unfolding words
+words-parts each zero left r a x p h = absurd (omega arith)
+words-parts each (suc zero) left r a x p h = words-turn nextWord each left r a x (omega arith)
+words-parts each (suc (suc n)) left r a x p h =
+    let i : left - 1 - suc n ≡ left - suc (suc n) = omega arith in
+    let j : (nextReg r + suc n) % 16 ≡ (r + suc (suc n)) % 16 = omega arith in
+    let k : (nextWord a + suc n * 4) % 16777216 ≡ (a + suc (suc n) * 4) % 16777216 = omega arith in
+    words-turn nextWord each left r a x (omega arith)
+    ∙ words-parts each (suc n) (left - 1) (nextReg r) (nextWord a) (each r a x) (omega arith) (omega arith)
+    ∙ rw (i, j, k)

@@ -7,21 +7,25 @@ use Rattle.pages.specs.Framed.{Framed}
 use Rattle.machine.specs.Rs.{nextReg, nextWord}
 use Rattle.fields.specs.Direct.{readField, writeField, flat, flatPut}
 
+-- n registers from r on, with the words from a on, of which `on` gives the next one's address: what `each` makes of x, one by one
+unfoldable pub words : {X : Type 0} → (ℕ → ℕ) → (ℕ → ℕ → X → X) → ℕ → ℕ → ℕ → X → X
+words on each zero r a x = x
+words on each (suc n) r a x = words on each n (nextReg r) (on a) (each r a x)
+
 -- n registers from r on take the words from a on
 unfoldable pub filled : Framed → ℕ → ℕ → ℕ → List ℕ → List ℕ
-filled s zero r a regs = regs
-filled s (suc n) r a regs = filled s n (nextReg r) (nextWord a) (set regs r (readField s a 4 0))
+filled s n r a regs = words nextWord (λ r a regs. set regs r (readField s a 4 0)) n r a regs
 
 -- the words from a on take n registers from r on
 unfoldable pub spilled : List ℕ → ℕ → ℕ → ℕ → Framed → Framed
-spilled regs zero r a s = s
-spilled regs (suc n) r a s = spilled regs n (nextReg r) (nextWord a) (writeField s a 4 (getD regs r 0))
+spilled regs n r a s = words nextWord (λ r a s. writeField s a 4 (getD regs r 0)) n r a s
 
 -- the same by real address
+abbrev pub fourOn : ℕ → ℕ
+fourOn a = a + 4
+
 unfoldable pub filledAt : List ℕ → ℕ → ℕ → ℕ → List ℕ → List ℕ
-filledAt mem zero r a regs = regs
-filledAt mem (suc n) r a regs = filledAt mem n (nextReg r) (a + 4) (set regs r (flat mem a 4 0))
+filledAt mem n r a regs = words fourOn (λ r a regs. set regs r (flat mem a 4 0)) n r a regs
 
 unfoldable pub spilledAt : List ℕ → ℕ → ℕ → ℕ → List ℕ → List ℕ
-spilledAt regs zero r a mem = mem
-spilledAt regs (suc n) r a mem = spilledAt regs n (nextReg r) (a + 4) (flatPut mem a 4 (getD regs r 0))
+spilledAt regs n r a mem = words fourOn (λ r a mem. flatPut mem a 4 (getD regs r 0)) n r a mem

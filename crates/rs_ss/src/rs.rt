@@ -9,11 +9,13 @@ use pages::Access;
 use pages::Look;
 use words::Direction;
 ghost use mathlib.Core.Path.{_≡_};
-ghost use Prim.Native.Nat.{_≤_, _+_, _*_};
+ghost use Prim.Native.Nat.{_≤_, _+_, _*_, _%_};
 ghost use lib.ListN.{length};
+ghost use Rattle.pages.specs.declared.Access.the-variants.{Load, Store};
 ghost use Rattle.pages.specs.Framed.{framedOf};
 ghost use Rattle.machine.specs.Prog.{done};
-ghost use Rattle.machine.specs.Rs.{rs, rsAddress, howMany, nextReg, nextWord, indexSum, isHigh};
+ghost use Rattle.machine.specs.Rs.{rs, rsAddress, howMany, nextReg, indexSum, isHigh};
+ghost use Rattle.fields.specs.Direct.{Clear};
 ghost use Rattle.rs_ss.specs.Multiple.{filled, spilled, filledAt, spilledAt};
 ghost use Rattle.actions.specs.Answered.{cpuOf, told, doing, answersTo};
 
@@ -41,44 +43,14 @@ fn next_reg(r: u8) -> u8
     ((r as u32 + 1) % 16) as u8
 }
 
-fn next_word(a: u32) -> u32
-    ensures { λ n. ⌜ n ≡ nextWord a ⌝ }
+// The register so many places on.
+fn reg_past(r: u8, n: u32) -> u8
+    ensures { λ m. ⌜ m ≡ (r + n) % 16 ⌝ }
 {
-    ((a as u64 + 4) % 16777216) as u32
+    ((r as u64 + n as u64) % 16) as u8
 }
 
-// Word by word, through the look-up: a field over the edge of a page.
-fn fill(regs: &mut [u32], mem: &[u8], map: &[u16], count: u32, first: u8, at: u32)
-    ensures { λ _. ⌜ now (regs .exit) ≡ filled (framedOf (now (mem .entry)) (now (map .entry))) count first at (now (regs .entry)) ⌝ }
-{
-    let mut r = first;
-    let mut a = at;
-    let mut left = count;
-    while 0 < left {
-        let v = fields::read_word(mem, map, a);
-        registers::put_reg(regs, r, v);
-        r = next_reg(r);
-        a = next_word(a);
-        left = left - 1;
-    }
-}
-
-fn spill(regs: &[u32], mem: &mut [u8], map: &mut [u16], count: u32, first: u8, at: u32)
-    ensures { λ _. ⌜ framedOf (now (mem .exit)) (now (map .exit)) ≡ spilled (now (regs .entry)) count first at (framedOf (now (mem .entry)) (now (map .entry))) ⌝ }
-{
-    let mut r = first;
-    let mut a = at;
-    let mut left = count;
-    while 0 < left {
-        let v = registers::reg(regs, r);
-        fields::write_word(mem, map, a, v);
-        r = next_reg(r);
-        a = next_word(a);
-        left = left - 1;
-    }
-}
-
-// By real address: a field that the look-up reached whole.
+// By real address, word by word: as many words as a look-up reached.
 fn fill_at(regs: &mut [u32], mem: &[u8], count: u32, first: u8, at: usize)
     requires { ⌜ at + count * 4 ≤ length (now mem) ⌝ }
     ensures { λ _. ⌜ now (regs .exit) ≡ filledAt (now (mem .entry)) count first at (now (regs .entry)) ⌝ }
@@ -108,6 +80,48 @@ fn spill_at(regs: &[u32], mem: &mut [u8], count: u32, first: u8, at: usize)
         r = next_reg(r);
         a = a + 4;
         left = left - 1;
+    }
+}
+
+// Piece by piece, as many words at a time as the look-up reaches: a field over the edge of a page, every byte of which was found.
+fn fill(regs: &mut [u32], mem: &[u8], map: &[u16], count: u32, first: u8, at: u32)
+    requires { ⌜ (at % 4 ≡ 0) × Clear (now map) (length (now mem)) Load at (count * 4) ⌝ }
+    ensures { λ _. ⌜ now (regs .exit) ≡ filled (framedOf (now (mem .entry)) (now (map .entry))) count first at (now (regs .entry)) ⌝ }
+{
+    let mut r = first;
+    let mut a = at;
+    let mut left = count;
+    while 0 < left {
+        let found = lookup::look_up(map, mem.len(), Access::Load, a);
+        let Look::At(i, reach) = found else {
+            return;
+        };
+        let n = lookup::fewer_of(left, (reach / 4) as usize);
+        fill_at(regs, mem, n, r, i);
+        r = reg_past(r, n);
+        a = lookup::past_of(a, n * 4);
+        left = left - n;
+    }
+}
+
+fn spill(regs: &[u32], mem: &mut [u8], map: &mut [u16], count: u32, first: u8, at: u32)
+    requires { ⌜ (at % 4 ≡ 0) × Clear (now map) (length (now mem)) Store at (count * 4) ⌝ }
+    ensures { λ _. ⌜ framedOf (now (mem .exit)) (now (map .exit)) ≡ spilled (now (regs .entry)) count first at (framedOf (now (mem .entry)) (now (map .entry))) ⌝ }
+{
+    let mut r = first;
+    let mut a = at;
+    let mut left = count;
+    while 0 < left {
+        let found = lookup::look_up(map, mem.len(), Access::Store, a);
+        let Look::At(i, reach) = found else {
+            return;
+        };
+        let n = lookup::fewer_of(left, (reach / 4) as usize);
+        spill_at(regs, mem, n, r, i);
+        lookup::note_written(map, a);
+        r = reg_past(r, n);
+        a = lookup::past_of(a, n * 4);
+        left = left - n;
     }
 }
 

@@ -1,54 +1,56 @@
-use borrow.Author.Needs.{needs}
 use native.Mathlib.Omega.{arith}
 use mathlib.Core.Path.{_≡_, refl, sym, _∙_}
-use lib.ListN.{length, length-set}
+use Prim.Native.Nat.{_*_, _%_}
+use lib.ListN.{length}
+use Rattle.pages.specs.declared.Access.the-variants.{Load}
 use Rattle.pages.specs.Framed.{framedOf}
+use Rattle.fields.specs.Direct.{Clear}
+use Rattle.fields.proofs.Pieces.{less}
 use Rattle.rs_ss.specs.Multiple.{filled}
-use Rattle.rs_ss.proofs.RegisterLoops.{fill-turn, fill-none}
+use Rattle.rs_ss.proofs.RegisterLoops.{words-none}
+use Rattle.rs_ss.proofs.MultiplesReached.{fill-on, never-refused, piece, piece-inside, piece-small, piece-on}
+use borrow.Author.Needs.{needs}
 use Rattle.rs_ss.proofs.rs.fill.Statement.{statement}
 use Rattle.rs_ss.proofs.rs.fill.Tie as tie
-use Rattle.rs_ss.proofs.rs.fill.Reads as reads
-use Rattle.rs_ss.proofs.rs.fill.Lts as lts
-use Rattle.actions.proofs.registers.put_reg.Reads as put-reg-reads
-use Rattle.rs_ss.proofs.rs.next_reg.Reads as next-reg-reads
-use Rattle.rs_ss.proofs.rs.next_word.Reads as next-word-reads
-use Rattle.fields.proofs.read_word.Reads as read-word-reads
 
+-- what is left is on its boundary, and no byte of it is refused
 abbrev Inv-loop : tie.InvT-loop
-Inv-loop regs₀ mem map count first at r₀ a₀ left₀ regs r a left = (filled (framedOf mem map) count first at regs₀ ≡ filled (framedOf mem map) left r a regs) × (length regs ≡ length regs₀)
+Inv-loop regs₀ mem map count first at r₀ a₀ left₀ regs r a left =
+    (filled (framedOf mem map) count first at regs₀ ≡ filled (framedOf mem map) left r a regs) × (length regs ≡ length regs₀) × (a % 4 ≡ 0) × Clear map (length mem) Load a (left * 4)
 
 abbrev μ-loop : tie.MeasureT-loop
 μ-loop regs₀ mem map count first at r₀ a₀ left₀ regs r a left = left
 
 loop-holds : tie.Need-loop-holds Inv-loop μ-loop
-loop-holds c = (refl, refl)
-
-read-word-requires : tie.Need-read-word-requires Inv-loop μ-loop
-read-word-requires c κs = search needs
-
-put-reg-requires : tie.Need-put-reg-requires Inv-loop μ-loop
-put-reg-requires c κs = search needs
-
-next-reg-requires : tie.Need-next-reg-requires Inv-loop μ-loop
-next-reg-requires c κs = search needs
-
-next-word-requires : tie.Need-next-word-requires Inv-loop μ-loop
-next-word-requires c κs = search needs
-
-sub-left : tie.Need-sub-left Inv-loop μ-loop
-sub-left c = search needs
-
-loop-less : tie.Need-loop-less Inv-loop μ-loop
-loop-less c = omega arith
-
-loop-again : tie.Need-loop-again Inv-loop μ-loop
-loop-again c = (rw ((c .before .before .before .before .put-reg .ensures), (c .before .before .before .before .before .before .read-word .ensures), (c .before .next-reg .ensures), (c .next-word .ensures)) ((c .before .before .before .before .before .before .before .before .loop .inv .0) ∙ fill-turn _ _ _ _ _ (c .before .before .before .before .before .before .before .loop-test .taken)), (c .before .before .before .before .put-reg .kept .0) ∙ (c .before .before .before .before .before .before .before .before .loop .inv .1))
+loop-holds c = (refl, refl, c .before .before .before .pre .0, c .before .before .before .pre .1)
 
 same-length : tie.Need-same-length Inv-loop μ-loop
-same-length c = (c .before .loop .inv .1)
+same-length c = c .before .before .before .before .loop .inv .1
 
 returns : tie.Need-returns Inv-loop μ-loop
-returns c = sym ((c .before .loop .inv .0) ∙ fill-none _ _ _ _ _ (c .loop-test .left))
+returns c = absurd (never-refused _ _ _ _ _ (c .before .before .before .before .loop .inv .2) (c .before .before .before .before .loop .inv .3) (c .before .before .before .loop-test .taken) _ (c .before .before .look-up .ensures) _ _ ((c .enum-told .given) .1))
+
+fill-at-requires : tie.Need-fill-at-requires Inv-loop μ-loop
+fill-at-requires c κs = piece-inside _ _ _ _ _ (c .before .before .before .before .before .before .before .loop .inv .2) (c .before .before .before .before .before .before .before .loop .inv .3) (c .before .before .before .before .before .before .loop-test .taken) _ _ _ (sym (c .before .before .before .before .before .look-up .ensures) ∙ ((c .before .before .before .found .given) .1)) (c .before .fewer-of .ensures)
+
+mul-past-of : tie.Need-mul-past-of Inv-loop μ-loop
+mul-past-of c = omega (arith, piece-small _ _ _ _ _ (c .before .before .before .before .before .before .before .before .before .before .before .loop .inv .2) (c .before .before .before .before .before .before .before .before .before .before .before .loop .inv .3) (c .before .before .before .before .before .before .before .before .before .before .loop-test .taken) _ _ _ (sym (c .before .before .before .before .before .before .before .before .before .look-up .ensures) ∙ ((c .before .before .before .before .before .before .before .found .given) .1)) (c .before .before .before .before .before .fewer-of .ensures))
+
+sub-left : tie.Need-sub-left Inv-loop μ-loop
+sub-left c = piece _ _ _ _ _ (c .before .before .before .before .before .before .before .before .before .before .before .before .loop .inv .2) (c .before .before .before .before .before .before .before .before .before .before .before .before .loop .inv .3) (c .before .before .before .before .before .before .before .before .before .before .before .loop-test .taken) _ _ _ (sym (c .before .before .before .before .before .before .before .before .before .before .look-up .ensures) ∙ ((c .before .before .before .before .before .before .before .before .found .given) .1)) (c .before .before .before .before .before .before .fewer-of .ensures) .1
+
+loop-less : tie.Need-loop-less Inv-loop μ-loop
+loop-less c = let p = piece _ _ _ _ _ (c .before .before .before .before .before .before .before .before .before .before .before .before .loop .inv .2) (c .before .before .before .before .before .before .before .before .before .before .before .before .loop .inv .3) (c .before .before .before .before .before .before .before .before .before .before .before .loop-test .taken) _ _ _ (sym (c .before .before .before .before .before .before .before .before .before .before .look-up .ensures) ∙ ((c .before .before .before .before .before .before .before .before .found .given) .1)) (c .before .before .before .before .before .before .fewer-of .ensures) in less (p .0) (p .1)
+
+loop-again : tie.Need-loop-again Inv-loop μ-loop
+loop-again c = let e = sym (c .before .before .before .before .before .before .before .before .before .before .look-up .ensures) ∙ ((c .before .before .before .before .before .before .before .before .found .given) .1) in let p = piece _ _ _ _ _ (c .before .before .before .before .before .before .before .before .before .before .before .before .loop .inv .2) (c .before .before .before .before .before .before .before .before .before .before .before .before .loop .inv .3) (c .before .before .before .before .before .before .before .before .before .before .before .loop-test .taken) _ _ _ e (c .before .before .before .before .before .before .fewer-of .ensures) in let o = piece-on _ _ _ _ _ (c .before .before .before .before .before .before .before .before .before .before .before .before .loop .inv .2) (c .before .before .before .before .before .before .before .before .before .before .before .before .loop .inv .3) (c .before .before .before .before .before .before .before .before .before .before .before .loop-test .taken) _ _ _ e (c .before .before .before .before .before .before .fewer-of .ensures) in (rw ((c .before .reg-past .ensures), (c .past-of .ensures)) ((c .before .before .before .before .before .before .before .before .before .before .before .before .loop .inv .0) ∙ fill-on _ _ _ _ _ e _ _ _ _ _ (p .0) (p .1) (p .2) (c .before .before .before .before .fill-at .ensures)), (c .before .before .before .before .fill-at .kept .0) ∙ (c .before .before .before .before .before .before .before .before .before .before .before .before .loop .inv .1), rw (c .past-of .ensures) (o .0), rw (c .past-of .ensures) (o .1))
+
+same-length-2 : tie.Need-same-length-2 Inv-loop μ-loop
+same-length-2 c = c .before .loop .inv .1
+
+returns-2 : tie.Need-returns-2 Inv-loop μ-loop
+unfolding filled
+returns-2 c = sym ((c .before .loop .inv .0) ∙ words-none _ _ _ _ _ _ (c .loop-test .left))
 
 pub fill-spec : {M : Type 1} → statement M
 fill-spec =
@@ -57,12 +59,19 @@ fill-spec =
     Inv-loop
     μ-loop
     loop-holds
-    read-word-requires
-    put-reg-requires
-    next-reg-requires
-    next-word-requires
+    (λ c κs. search needs)
+    (λ c. search needs)
+    (λ c. search needs)
+    same-length
+    returns
+    (λ c. search needs)
+    (λ c κs. search needs)
+    fill-at-requires
+    (λ c κs. search needs)
+    mul-past-of
+    (λ c κs. search needs)
     sub-left
     loop-less
     loop-again
-    same-length
-    returns)
+    same-length-2
+    returns-2)

@@ -3,7 +3,7 @@ use mathlib.Core.Path.{_≡_, refl, sym, _∙_}
 use Prim.Native.Nat.{_+_, _*_, _≤_}
 use lib.ListN.{length}
 use Rattle.rs_ss.specs.Multiple.{filledAt}
-use Rattle.rs_ss.proofs.RegisterLoops.{fill-at-turn, fill-at-none}
+use Rattle.rs_ss.proofs.RegisterLoops.{words-turn, words-none}
 use borrow.Author.Needs.{needs}
 use Rattle.rs_ss.proofs.rs.fill_at.Statement.{statement}
 use Rattle.rs_ss.proofs.rs.fill_at.Tie as tie
@@ -28,13 +28,15 @@ loop-less : tie.Need-loop-less Inv-loop μ-loop
 loop-less c = omega (arith, (c .before .before .before .before .before .before .loop-test .taken))
 
 loop-again : tie.Need-loop-again Inv-loop μ-loop
-loop-again c = (rw ((c .before .before .before .put-reg .ensures), (c .before .before .before .before .before .word-of .ensures), (c .next-reg .ensures)) ((c .before .before .before .before .before .before .before .loop .inv .0) ∙ fill-at-turn _ _ _ _ _ (c .before .before .before .before .before .before .loop-test .taken)), (c .before .before .before .put-reg .kept .0) ∙ (c .before .before .before .before .before .before .before .loop .inv .1), omega (arith, (c .before .before .before .before .before .before .before .loop .inv .2), (c .before .before .before .before .before .before .loop-test .taken)))
+unfolding filledAt
+loop-again c = (rw ((c .before .before .before .put-reg .ensures), (c .before .before .before .before .before .word-of .ensures), (c .next-reg .ensures)) ((c .before .before .before .before .before .before .before .loop .inv .0) ∙ words-turn _ _ _ _ _ _ (c .before .before .before .before .before .before .loop-test .taken)), (c .before .before .before .put-reg .kept .0) ∙ (c .before .before .before .before .before .before .before .loop .inv .1), omega (arith, (c .before .before .before .before .before .before .before .loop .inv .2), (c .before .before .before .before .before .before .loop-test .taken)))
 
 same-length : tie.Need-same-length Inv-loop μ-loop
 same-length c = (c .before .loop .inv .1)
 
 returns : tie.Need-returns Inv-loop μ-loop
-returns c = sym ((c .before .loop .inv .0) ∙ fill-at-none _ _ _ _ _ (c .loop-test .left))
+unfolding filledAt
+returns c = sym ((c .before .loop .inv .0) ∙ words-none _ _ _ _ _ _ (c .loop-test .left))
 
 pub fill-at-spec : {M : Type 1} → statement M
 fill-at-spec =

@@ -3,7 +3,7 @@ use mathlib.Core.Path.{refl}
 use Rattle.machine.specs.Rs.{rs}
 use Rattle.actions.proofs.Executed.{operand-off, operand-stop, operand-go}
 use Rattle.rs_ss.proofs.Multiples.{fills-done}
-use Rattle.rs_ss.proofs.MultiplesReached.{words-inside, words-filled}
+use Rattle.rs_ss.proofs.MultiplesReached.{words-inside, words-filled, words-clear}
 use borrow.Author.Needs.{needs}
 use Rattle.rs_ss.proofs.rs.load_multiple.Statement.{statement}
 use Rattle.rs_ss.proofs.rs.load_multiple.Tie as tie
@@ -22,6 +22,9 @@ fill-at-requires c κs = words-inside (c .before .before .before .before .before
 returns-3 : tie.Need-returns-3
 unfolding rs
 returns-3 c = rw (← (c .before .before .before .before .before .before .before .before .before .before .before .before .before .before .before .before .before .before .operand-address .ensures), ← ((c .before .before .before .before .before .before .before .before .before .before .before .before .before .before .before .before .how-many .ensures) .0), ← (c .before .before .before .before .before .ahead-of .ensures)) (operand-go _ _ _ _ _ _ _ _ _ tt (c .before .before .before .before .before .before .before .before .before .before .before .before .before .before .before .before .before .if1 .left) _ (c .before .before .before .before .before .before .before .before .before .before .before .before .before .before .look-one .ensures) _ _ _ _ _ _ ((c .before .before .before .before .before .before .before .before .before .before .before .before .found .given) .1) (c .before .before .before .before .before .before .before .before .before .note-field .ensures) (fills-done _ _ _ _ _ _ _ _ _ refl (words-filled (c .before .before .before .before .before .before .before .before .before .before .before .before .before .before .before .before .before .before .before .before .before .before .before .args .mem .now) _ _ _ _ _ _ (c .before .before .before .before .before .before .before .before .before .before .before .before .before .before .look-one .ensures) ((c .before .before .before .before .before .before .before .before .before .before .before .before .found .given) .1) (c .before .before .before .before .if2 .taken) _ (c .before .before .before .before .before .before .before .before .before .note-field .ensures) _ _ _ (c .before .before .fill-at .ensures))))
+
+fill-requires : tie.Need-fill-requires
+fill-requires c κs = (omega (arith, c .before .before .before .before .before .before .before .before .before .before .before .before .before .before .before .if1 .left), words-clear _ _ _ _ _ _ _ _ (c .before .before .before .before .before .before .before .before .before .before .before .before .look-one .ensures) ((c .before .before .before .before .before .before .before .before .before .before .found .given) .1) _ (c .before .before .before .before .before .before .before .note-field .ensures))
 
 returns-4 : tie.Need-returns-4
 unfolding rs
@@ -48,7 +51,7 @@ load-multiple-spec =
     (λ c κs. search needs)
     (λ c. search needs)
     fill-at-requires
-    (λ c κs. search needs)
+    fill-requires
     (λ c. search needs)
     (λ c. search needs)
     returns-3

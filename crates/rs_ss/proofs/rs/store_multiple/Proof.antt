@@ -3,7 +3,7 @@ use mathlib.Core.Path.{refl}
 use Rattle.machine.specs.Rs.{rs}
 use Rattle.actions.proofs.Executed.{operand-off, operand-stop, operand-go}
 use Rattle.rs_ss.proofs.Multiples.{spills-done}
-use Rattle.rs_ss.proofs.MultiplesReached.{words-inside, words-spilled}
+use Rattle.rs_ss.proofs.MultiplesReached.{words-inside, words-spilled, words-clear}
 use borrow.Author.Needs.{needs}
 use Rattle.rs_ss.proofs.rs.store_multiple.Statement.{statement}
 use Rattle.rs_ss.proofs.rs.store_multiple.Tie as tie
@@ -22,6 +22,9 @@ spill-at-requires c κs = words-inside (c .before .before .before .before .befor
 returns-3 : tie.Need-returns-3
 unfolding rs
 returns-3 c = rw (← (c .before .before .before .before .before .before .before .before .before .before .before .before .before .before .before .before .before .before .before .before .before .operand-address .ensures), ← ((c .before .before .before .before .before .before .before .before .before .before .before .before .before .before .before .before .before .before .before .how-many .ensures) .0), ← (c .before .before .before .before .before .before .before .before .before .ahead-of .ensures)) (operand-go _ _ _ _ _ _ _ _ _ tt (c .before .before .before .before .before .before .before .before .before .before .before .before .before .before .before .before .before .before .before .before .if1 .left) _ (c .before .before .before .before .before .before .before .before .before .before .before .before .before .before .before .before .before .look-one .ensures) _ _ _ _ _ _ ((c .before .before .before .before .before .before .before .before .before .before .before .before .before .before .before .found .given) .1) (c .before .before .before .before .before .before .before .before .before .before .before .before .note-field .ensures) (spills-done _ _ _ _ _ _ _ _ _ _ (words-spilled (c .before .before .before .before .before .before .before .before .before .before .before .before .before .before .before .before .before .before .before .before .before .before .before .before .before .args .mem .now) _ _ _ _ _ _ (c .before .before .before .before .before .before .before .before .before .before .before .before .before .before .before .before .before .look-one .ensures) ((c .before .before .before .before .before .before .before .before .before .before .before .before .before .before .before .found .given) .1) (c .before .before .before .before .before .before .before .before .if2 .taken) _ (c .before .before .before .before .before .before .before .before .before .before .before .before .note-field .ensures) (omega (arith, (c .before .before .before .before .before .before .before .before .before .before .before .before .before .before .before .before .before .before .before .how-many .ensures) .0)) _ _ _ _ (c .before .before .before .before .before .before .spill-at .ensures) (c .before .before .note-written .ensures)) refl))
+
+spill-requires : tie.Need-spill-requires
+spill-requires c κs = (omega (arith, c .before .before .before .before .before .before .before .before .before .before .before .before .before .before .if1 .left), words-clear _ _ _ _ _ _ _ _ (c .before .before .before .before .before .before .before .before .before .before .before .look-one .ensures) ((c .before .before .before .before .before .before .before .before .before .found .given) .1) _ (c .before .before .before .before .before .before .note-field .ensures))
 
 returns-4 : tie.Need-returns-4
 unfolding rs
@@ -47,7 +50,7 @@ store-multiple-spec =
     (λ c. search needs)
     spill-at-requires
     (λ c κs. search needs)
-    (λ c κs. search needs)
+    spill-requires
     (λ c. search needs)
     (λ c. search needs)
     returns-3
