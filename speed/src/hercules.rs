@@ -2,7 +2,7 @@
 
 use crate::clock;
 use crate::machine::{Machine, PAGE};
-use crate::programs::{Program, PAGE_FRAMES};
+use crate::programs::Program;
 use common::bytes::{from_hex, put};
 use common::hercules::{run, Ended, OldPsw};
 use std::path::PathBuf;
@@ -33,7 +33,8 @@ const STORAGE: usize = 0x6000;
 /// The interruption for an operation that there is not.
 const OPERATION: u16 = 1;
 
-fn storage(machine: &Machine) -> Vec<u8> {
+fn storage(program: &Program, rounds: u32) -> Vec<u8> {
+    let machine = program.machine(rounds);
     let mut storage = vec![0; STORAGE];
     for (at, text) in AROUND {
         put(&mut storage, at, &from_hex(text));
@@ -41,15 +42,15 @@ fn storage(machine: &Machine) -> Vec<u8> {
     for (i, word) in machine.registers.iter().enumerate() {
         put(&mut storage, REGISTERS + 4 * i, &word.to_be_bytes());
     }
-    for (page, frame) in PAGE_FRAMES {
-        let bytes = &machine.memory[frame * PAGE..][..PAGE];
-        put(&mut storage, page * PAGE, bytes);
+    for place in program.places() {
+        let bytes = &machine.memory[place.real..][..place.bytes];
+        put(&mut storage, place.page * PAGE, bytes);
     }
     storage
 }
 
 /// What differs first between storage at the end and a machine, if anything does.
-fn difference(storage: &[u8], machine: &Machine) -> Option<String> {
+fn difference(storage: &[u8], program: &Program, machine: &Machine) -> Option<String> {
     let psw = OldPsw::read(std::array::from_fn(|i| storage[OLD_PSW + i]));
     if psw.number != OPERATION || psw.place != machine.counter {
         return Some(format!("interruption {} at {:06X}", psw.number, psw.place));
@@ -62,31 +63,32 @@ fn difference(storage: &[u8], machine: &Machine) -> Option<String> {
             return Some(format!("register {i} differs"));
         }
     }
-    let other = |&&(page, frame): &&(usize, usize)| {
-        storage[page * PAGE..][..PAGE] != machine.memory[frame * PAGE..][..PAGE]
-    };
-    PAGE_FRAMES
+    program
+        .places()
         .iter()
-        .find(other)
-        .map(|(page, _)| format!("a byte of page {page} differs"))
+        .find(|place| {
+            let bytes = &machine.memory[place.real..][..place.bytes];
+            storage[place.page * PAGE..][..place.bytes] != *bytes
+        })
+        .map(|place| format!("a byte of page {} differs", place.page))
 }
 
 impl Hercules {
     /// Starts it once, with the shortest run there is.
     pub fn new(folder: PathBuf, program: &Program) -> Result<Hercules, String> {
-        let Ended { version, .. } = run(&folder, &storage(&program.machine(1)))?;
+        let Ended { version, .. } = run(&folder, &storage(program, 1))?;
         Ok(Hercules { folder, version })
     }
 
     pub fn check(&self, program: &Program, rounds: u32, wanted: &Machine) -> Result<(), String> {
-        let ended = run(&self.folder, &storage(&program.machine(rounds)))?;
-        difference(&ended.storage, wanted).map_or(Ok(()), Err)
+        let ended = run(&self.folder, &storage(program, rounds))?;
+        difference(&ended.storage, program, wanted).map_or(Ok(()), Err)
     }
 
     /// The processor time of a whole process that does so many rounds.
     pub fn time(&self, program: &Program, rounds: u32) -> Result<Duration, String> {
         let before = clock::children();
-        run(&self.folder, &storage(&program.machine(rounds)))?;
+        run(&self.folder, &storage(program, rounds))?;
         Ok(clock::children() - before)
     }
 }

@@ -1,5 +1,6 @@
-//! The programs that are timed: seven loops, the same bytes for every engine. Code is at 002000 in page 2, data in pages 4 and 5.
-//! R12 holds the code's address and R11 the number of rounds; a program ends on the zeros behind it, which are no operation.
+//! The programs that are timed: nine loops, the same bytes for every engine. Code is at 002000 in page 2, data in pages 4 and 5.
+//! R12 holds the code's address and R11 the number of rounds; a program ends on the zeros behind it, which are no operation. Two of
+//! them, m and n, are g and c once more, in pages of 2,048 bytes.
 
 use crate::machine::{Machine, PAGE};
 use common::bytes::from_hex;
@@ -11,6 +12,7 @@ pub struct Program {
     code: &'static [&'static str],
     registers: &'static [(usize, u32)],
     data: Data,
+    pages: Pages,
     /// What a figure is for, and how many of it a round has.
     pub unit: &'static str,
     pub units: u64,
@@ -29,9 +31,27 @@ enum Data {
     Alike,
 }
 
-/// A page, its frame, and so that the map has something to do, not the frame of its own number.
-pub const PAGE_FRAMES: [(usize, usize); 3] = [(2, 7), (4, 9), (5, 3)];
+#[derive(Clone, Copy)]
+enum Pages {
+    Whole,
+    Halves,
+}
+
+/// A page of a program: where it lies, and its word.
+pub struct Place {
+    pub page: usize,
+    pub real: usize,
+    pub bytes: usize,
+    word: u16,
+}
+
+/// A page, its frame, and so that the map has something to do, not the frame of its own number; and which half of it where pages are
+/// halves, 0 or 1.
+const PLACES: [(usize, usize, usize); 3] = [(2, 7, 0), (4, 9, 1), (5, 3, 0)];
 const OPEN: u16 = 0x3000;
+/// M, and H for the upper half.
+const HALF: u16 = 0x0400;
+const UPPER: u16 = 0x0200;
 const CODE: u32 = 0x2000;
 const MEMORY: usize = 65_536;
 const ROUNDS: usize = 11;
@@ -39,13 +59,28 @@ const ROUNDS: usize = 11;
 /// BCT 11, to the first instruction.
 const AGAIN: &str = "46B0C000";
 
-pub const PROGRAMS: [Program; 7] = [
+/// g and c: what a job does most, and what it moves.
+const MIXED: &[&str] = &[
+    "186D 95006000 4740C002 58706004 5A706008 5070600C",
+    "D20750006004 9180600C 4700C002 8768C002",
+    AGAIN,
+];
+const MIXED_REGISTERS: &[(usize, u32)] = &[(5, 0x5000), (8, 16), (9, 0x47C0), (13, 0x4000)];
+const MOVES: &[&str] = &[
+    "D2FF50004000 D2FF51004100 D2FF52004200 D2FF53004300",
+    "D2FF54004400 D2FF55004500 D2FF56004600 D2FF57004700",
+    AGAIN,
+];
+const MOVES_REGISTERS: &[(usize, u32)] = &[(4, 0x4000), (5, 0x5000)];
+
+pub const PROGRAMS: [Program; 9] = [
     Program {
         name: 'a',
         title: "AR AR SR AR LR XR ALR BCT",
         code: &["1A34 1A53 1B64 1A75 1887 1798 1EA9", AGAIN],
         registers: &[(4, 3), (5, 1), (6, 10_000)],
         data: Data::Zeros,
+        pages: Pages::Whole,
         unit: "instruction",
         units: 8,
         instructions: 8,
@@ -56,6 +91,7 @@ pub const PROGRAMS: [Program; 7] = [
         code: &["186D 58706000 5A70D000 50706000 8768C002", AGAIN],
         registers: &[(8, 4), (9, 0x4F9C), (13, 0x4000)],
         data: Data::One,
+        pages: Pages::Whole,
         unit: "instruction",
         units: 4002,
         instructions: 4002,
@@ -63,13 +99,10 @@ pub const PROGRAMS: [Program; 7] = [
     Program {
         name: 'c',
         title: "MVC of 256 bytes",
-        code: &[
-            "D2FF50004000 D2FF51004100 D2FF52004200 D2FF53004300",
-            "D2FF54004400 D2FF55004500 D2FF56004600 D2FF57004700",
-            AGAIN,
-        ],
-        registers: &[(4, 0x4000), (5, 0x5000)],
+        code: MOVES,
+        registers: MOVES_REGISTERS,
         data: Data::Counting,
+        pages: Pages::Whole,
         unit: "move",
         units: 8,
         instructions: 9,
@@ -84,6 +117,7 @@ pub const PROGRAMS: [Program; 7] = [
         ],
         registers: &[(4, 0x4000), (5, 0x5000)],
         data: Data::Alike,
+        pages: Pages::Whole,
         unit: "compare",
         units: 8,
         instructions: 9,
@@ -98,6 +132,7 @@ pub const PROGRAMS: [Program; 7] = [
         ],
         registers: &[(4, 0x4000), (5, 0x5000)],
         data: Data::Alike,
+        pages: Pages::Whole,
         unit: "move",
         units: 8,
         instructions: 9,
@@ -112,6 +147,7 @@ pub const PROGRAMS: [Program; 7] = [
         ],
         registers: &[(4, 0x4000), (6, 0x4F80)],
         data: Data::Counting,
+        pages: Pages::Whole,
         unit: "move",
         units: 8,
         instructions: 9,
@@ -119,46 +155,84 @@ pub const PROGRAMS: [Program; 7] = [
     Program {
         name: 'g',
         title: "CLI BC L A ST MVC(8) TM BC BXLE",
-        code: &[
-            "186D 95006000 4740C002 58706004 5A706008 5070600C",
-            "D20750006004 9180600C 4700C002 8768C002",
-            AGAIN,
-        ],
-        registers: &[(5, 0x5000), (8, 16), (9, 0x47C0), (13, 0x4000)],
+        code: MIXED,
+        registers: MIXED_REGISTERS,
         data: Data::Zeros,
+        pages: Pages::Whole,
         unit: "instruction",
         units: 1127,
         instructions: 1127,
     },
+    Program {
+        name: 'm',
+        title: "g in pages of 2,048 bytes",
+        code: MIXED,
+        registers: MIXED_REGISTERS,
+        data: Data::Zeros,
+        pages: Pages::Halves,
+        unit: "instruction",
+        units: 1127,
+        instructions: 1127,
+    },
+    Program {
+        name: 'n',
+        title: "c in pages of 2,048 bytes",
+        code: MOVES,
+        registers: MOVES_REGISTERS,
+        data: Data::Counting,
+        pages: Pages::Halves,
+        unit: "move",
+        units: 8,
+        instructions: 9,
+    },
 ];
 
-fn frame(machine: &mut Machine, page: usize) -> &mut [u8] {
-    let number = usize::from(machine.map[page] & 0x3F);
-    &mut machine.memory[number * PAGE..][..PAGE]
+/// The bytes of a page.
+fn bytes<'a>(machine: &'a mut Machine, place: &Place) -> &'a mut [u8] {
+    &mut machine.memory[place.real..][..place.bytes]
 }
 
-fn count_up(machine: &mut Machine, page: usize) {
-    for (i, byte) in frame(machine, page).iter_mut().enumerate() {
+fn count_up(bytes: &mut [u8]) {
+    for (i, byte) in bytes.iter_mut().enumerate() {
         *byte = i as u8 ^ (i >> 8) as u8;
     }
 }
 
 impl Program {
+    /// Code, and the two pages of data.
+    pub fn places(&self) -> [Place; 3] {
+        PLACES.map(|(page, frame, half)| match self.pages {
+            Pages::Whole => Place {
+                page,
+                real: frame * PAGE,
+                bytes: PAGE,
+                word: OPEN | frame as u16,
+            },
+            Pages::Halves => Place {
+                page,
+                real: frame * PAGE + half * PAGE / 2,
+                bytes: PAGE / 2,
+                word: OPEN | HALF | UPPER * half as u16 | frame as u16,
+            },
+        })
+    }
+
     /// The machine before so many rounds, at least one.
     pub fn machine(&self, rounds: u32) -> Machine {
         let mut machine = Machine::new(MEMORY);
-        for (page, number) in PAGE_FRAMES {
-            machine.map[page] = OPEN | number as u16;
+        let [first, from, to] = self.places();
+        for place in [&first, &from, &to] {
+            machine.map[place.page] = place.word;
         }
         let code = from_hex(&self.code.concat());
-        frame(&mut machine, 2)[..code.len()].copy_from_slice(&code);
+        bytes(&mut machine, &first)[..code.len()].copy_from_slice(&code);
         match self.data {
             Data::Zeros => {}
-            Data::One => frame(&mut machine, 4)[3] = 1,
-            Data::Counting => count_up(&mut machine, 4),
+            Data::One => bytes(&mut machine, &from)[3] = 1,
+            Data::Counting => count_up(bytes(&mut machine, &from)),
             Data::Alike => {
-                count_up(&mut machine, 4);
-                count_up(&mut machine, 5);
+                count_up(bytes(&mut machine, &from));
+                count_up(bytes(&mut machine, &to));
             }
         }
         for (register, word) in self.registers {
