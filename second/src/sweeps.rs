@@ -201,6 +201,16 @@ const BRANCHES: [u8; 8] = [
     op::BXLE,
 ];
 
+/// Any operation of this length.
+fn some_operation(dice: &mut Dice, length: u32) -> u8 {
+    let codes: Vec<u8> = OPERATIONS
+        .iter()
+        .map(|row| row.code)
+        .filter(|&code| op::length(code) == length)
+        .collect();
+    dice.pick(&codes)
+}
+
 /// Keeps the condition code in a register, half of the time.
 fn keep_code(scene: &mut Scene, dice: &mut Dice) {
     if dice.chance(1, 2) {

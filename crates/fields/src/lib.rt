@@ -139,6 +139,7 @@ pub fn bytes_of(width: Width) -> u32
     }
 }
 
+// The two bytes each by itself: they have different pages, or one is refused.
 fn half_each(mem: &[u8], map: &[u16], at: u32) -> u16
     ensures { λ r. ⌜ r ≡ readField (framedOf (now (mem .entry)) (now (map .entry))) at 2 0 ⌝ }
 {
@@ -147,6 +148,7 @@ fn half_each(mem: &[u8], map: &[u16], at: u32) -> u16
     high as u16 * 256 + low as u16
 }
 
+// A halfword; where the look-up refuses, a byte is 0.
 pub fn read_half(mem: &[u8], map: &[u16], at: u32) -> u16
     ensures { λ r. ⌜ r ≡ readField (framedOf (now (mem .entry)) (now (map .entry))) at 2 0 ⌝ }
 {

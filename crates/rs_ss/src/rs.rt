@@ -94,7 +94,7 @@ fn fill(regs: &mut [u32], mem: &[u8], map: &[u16], count: u32, first: u8, at: u3
     while 0 < left {
         let found = lookup::look_up(map, mem.len(), Access::Load, a);
         let Look::At(i, reach) = found else {
-            return;
+            return; // never: no byte is refused
         };
         let n = lookup::fewer_of(left, (reach / 4) as usize);
         fill_at(regs, mem, n, r, i);
@@ -104,6 +104,7 @@ fn fill(regs: &mut [u32], mem: &[u8], map: &[u16], count: u32, first: u8, at: u3
     }
 }
 
+// The same for STM; each page that is stored to gets its mark.
 fn spill(regs: &[u32], mem: &mut [u8], map: &mut [u16], count: u32, first: u8, at: u32)
     requires { ⌜ (at % 4 ≡ 0) × Clear (now map) (length (now mem)) Store at (count * 4) ⌝ }
     ensures { λ _. ⌜ framedOf (now (mem .exit)) (now (map .exit)) ≡ spilled (now (regs .entry)) count first at (framedOf (now (mem .entry)) (now (map .entry))) ⌝ }
@@ -114,7 +115,7 @@ fn spill(regs: &[u32], mem: &mut [u8], map: &mut [u16], count: u32, first: u8, a
     while 0 < left {
         let found = lookup::look_up(map, mem.len(), Access::Store, a);
         let Look::At(i, reach) = found else {
-            return;
+            return; // never: no byte is refused
         };
         let n = lookup::fewer_of(left, (reach / 4) as usize);
         spill_at(regs, mem, n, r, i);

@@ -2,10 +2,10 @@
 //! point of the order, within a page and over its end, with marks there before
 //! or not, at once or after some steps.
 
-use super::{BOUND, MEMORY_OPS};
+use super::{some_operation, BOUND, MEMORY_OPS};
 use crate::draft::{rr, rs, rx, ss, Draft};
 use crate::machine::{ADDRESSING, E, FRAME, G, H, M, PAGING_ERROR, PAGING_QUEUE, S, U, W};
-use crate::operations::{self as op, OPERATIONS};
+use crate::operations as op;
 use crate::scene::{Scene, OPEN};
 use common::dice::Dice;
 
@@ -53,12 +53,7 @@ pub fn at_the_fetch(case: u32, dice: &mut Dice) -> Draft {
 /// An instruction of this length that would complete.
 fn some_text(scene: &mut Scene, dice: &mut Dice, length: u32, at: u32) -> Vec<u8> {
     move_code(scene, at);
-    let codes: Vec<u8> = OPERATIONS
-        .iter()
-        .map(|row| row.code)
-        .filter(|&code| op::length(code) == length)
-        .collect();
-    let code = dice.pick(&codes);
+    let code = some_operation(dice, length);
     scene.good(dice, code)
 }
 

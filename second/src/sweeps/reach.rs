@@ -1,10 +1,10 @@
 //! Sweeps over what lies at the end of a page, whole or of 2,048 bytes: code,
 //! single operands, and LM and STM. The page after it may be anything.
 
-use super::keep_code;
+use super::{keep_code, some_operation};
 use crate::draft::{rr, rs, rx, Draft};
 use crate::machine::{E, H, M, S, U};
-use crate::operations::{self as op, OPERATIONS};
+use crate::operations as op;
 use crate::scene::{Scene, OPEN};
 use common::dice::Dice;
 
@@ -111,12 +111,7 @@ pub fn code(case: u32, dice: &mut Dice) -> Draft {
     for _ in 0..lead {
         add_two_bytes(&mut scene, dice);
     }
-    let codes: Vec<u8> = OPERATIONS
-        .iter()
-        .map(|row| row.code)
-        .filter(|&code| op::length(code) == length)
-        .collect();
-    let code = dice.pick(&codes);
+    let code = some_operation(dice, length);
     let instruction = scene.good(dice, code);
     scene.add(instruction);
     let number = scene.take();
