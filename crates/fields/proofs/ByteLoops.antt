@@ -12,10 +12,10 @@ use Rattle.words.specs.Codes.{compareBits}
 use Rattle.pages.specs.declared.Access.{Access}
 use Rattle.pages.specs.declared.Cause.{Cause}
 use Rattle.pages.specs.declared.Look.{Look}
-use Rattle.pages.specs.declared.Look.the-variants.{Refused}
+use Rattle.pages.specs.declared.Look.the-variants.{At, Refused}
 use Rattle.pages.specs.Word.{next}
 use Rattle.pages.specs.Look.{lookOf}
-use Rattle.pages.specs.Framed.{Framed, readByte, writeByte}
+use Rattle.pages.specs.Framed.{Framed, accessedAt, readByte, writeByte}
 use Rattle.fields.specs.declared.Field.{Field}
 use Rattle.fields.specs.Direct.{orElse, lookField, lookFields, noteField, moveField, compareField}
 
@@ -56,6 +56,19 @@ look-stop map size acc a rest found e left h c p f =
     f
     ∙ ap (λ (l : Look). orElse l (lookField map size acc (next a) (left - 1) rest)) (sym f ∙ e)
     ∙ sym (look-turn map size acc a rest left h)
+
+pub look-found : (map : List ℕ) (size : ℕ) (acc : Access) (a : ℕ) (rest found : Look) → found ≡ lookOf map size acc a → (left : ℕ) → 0 < left
+    → (r k : ℕ) → found ≡ At r k → (b : ℕ) → b ≡ next a → lookField map size acc a left rest ≡ lookField map size acc b (left - 1) rest
+look-found map size acc a rest found e left h r k f b g =
+    look-turn map size acc a rest left h
+    ∙ ap (λ (l : Look). orElse l (lookField map size acc (next a) (left - 1) rest)) (sym e ∙ f)
+    ∙ ap (λ (x : ℕ). lookField map size acc x (left - 1) rest) (sym g)
+
+pub note-turn : (map : List ℕ) (a left : ℕ) → 0 < left → (map′ : List ℕ) → map′ ≡ accessedAt map a → (b : ℕ) → b ≡ next a
+    → noteField map a left ≡ noteField map′ b (left - 1)
+unfolding noteField
+note-turn map a zero h map′ e b g = absurd (omega arith)
+note-turn map a (suc k) h map′ e b g = rw (e, g, pred-suc)
 
 pub move-turn : (s : Framed) (a b left : ℕ) → 0 < left
     → moveField s a b left ≡ moveField (writeByte s a (readByte s b)) (next a) (next b) (left - 1)

@@ -1,9 +1,12 @@
 pub mod ByteLoops
 pub mod FlatLoops
 pub mod Pieces
+pub mod Stretches
 pub mod Widths
 pub mod Bridge
 pub mod MarkedOnce
 pub mod Reached
 pub mod Found
 pub mod Cleared
+pub mod Spanned
+pub mod BothLooked

@@ -95,7 +95,7 @@ move-split m (suc s) t a b =
     ∙ ap (λ (x : ℕ). moveField (moveField u (next a) (next b) (suc s)) ((a + suc (suc s)) % 16777216) x m) (past-next b s))
 
 -- two bytes that differ have a code that is not 0
-unlike-code : (x y : ℕ) → eqb x y ≡ false → eqb (compareBits x y) 0 ≡ false
+pub unlike-code : (x y : ℕ) → eqb x y ≡ false → eqb (compareBits x y) 0 ≡ false
 unfolding compareBits
 unlike-code x y e = go (ltb x y) refl (ltb y x) refl
   where

@@ -75,6 +75,11 @@ unfoldable pub flatMove : List ℕ → ℕ → ℕ → ℕ → List ℕ
 flatMove mem a b zero = mem
 flatMove mem a b (suc n) = flatMove (set mem a (getD mem b 0)) (a + 1) (b + 1) n
 
+-- one byte into n places
+unfoldable pub flatFill : List ℕ → ℕ → ℕ → ℕ → List ℕ
+flatFill mem a v zero = mem
+flatFill mem a v (suc n) = flatFill (set mem a v) (a + 1) v n
+
 unfoldable pub flatCompare : List ℕ → ℕ → ℕ → ℕ → ℕ
 flatCompare mem a b zero = 0
 flatCompare mem a b (suc n) =

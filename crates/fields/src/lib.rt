@@ -1,6 +1,9 @@
 // Fields of bytes in storage: looked up before anything is stored, noted, read, written, moved and compared. As far as a look-up reaches, by
 // real address.
-pub mod flat; // flat.rt: fields by real address
+pub mod blocks; // blocks.rt: stretches of memory moved and compared
+pub mod each; // each.rt: a move and a compare byte by byte, the plain way
+pub mod flat; // flat.rt: operands by real address
+pub mod spans; // spans.rt: a move and a compare over a page's edge, stretch by stretch
 
 use code::Width;
 use pages::Access;
@@ -15,13 +18,26 @@ ghost use lib.ListN.{length};
 ghost use Rattle.machine.specs.Fields.{bytesOf};
 ghost use Rattle.pages.specs.Framed.{framedOf};
 ghost use Rattle.pages.specs.Look.{lookOf};
-ghost use Rattle.fields.specs.Direct.{inPage, lookFields, lookOne, noteField, readField, moveField, compareField, flatMove, flatCompare};
+ghost use Rattle.fields.specs.Direct.{inPage, lookFields, lookOne, noteField, readField};
 
 // So many bytes from an address on, and what they are wanted for.
 pub struct Field {
     pub access: Access,
     pub at: u32,
     pub len: u32,
+}
+
+// A field in at most two stretches of memory: its first bytes, so many as `len` says, from `at` on, and the rest from `on` on.
+pub struct Span {
+    pub at: usize,
+    pub len: u32,
+    pub on: usize,
+}
+
+// What a compare comes to: the condition code, or the refusal.
+pub enum Order {
+    Code(u32),
+    Barred(Cause, u32),
 }
 
 fn look_first(map: &[u16], size: usize, f: Field) -> Look
@@ -159,137 +175,4 @@ pub fn read_half(mem: &[u8], map: &[u16], at: u32) -> u16
         }
     }
     half_each(mem, map, at)
-}
-
-// Piece by piece, left to right: as many bytes at a time as both look-ups reach. (Byte by byte from a byte on that is refused: nobody
-// moves such a field.)
-pub fn move_field(mem: &mut [u8], map: &mut [u16], to: u32, from: u32, len: u32)
-    ensures { λ _. ⌜ framedOf (now (mem .exit)) (now (map .exit)) ≡ moveField (framedOf (now (mem .entry)) (now (map .entry))) to from len ⌝ }
-{
-    let mut a = to;
-    let mut b = from;
-    let mut left = len;
-    while 0 < left {
-        let there = lookup::look_up(map, mem.len(), Access::Store, a);
-        let Look::At(x, room) = there else {
-            move_each(mem, map, a, b, left);
-            return;
-        };
-        let here = lookup::look_up(map, mem.len(), Access::Load, b);
-        let Look::At(y, more) = here else {
-            move_each(mem, map, a, b, left);
-            return;
-        };
-        let step = lookup::fewer_of(lookup::fewer_of(left, room as usize), more as usize);
-        move_flat(mem, x, y, step);
-        lookup::note_written(map, a);
-        a = lookup::past_of(a, step);
-        b = lookup::past_of(b, step);
-        left = left - step;
-    }
-}
-
-// By real address, left to right.
-pub fn move_flat(mem: &mut [u8], to: usize, from: usize, len: u32)
-    requires { ⌜ (to + len ≤ length (now mem)) × (from + len ≤ length (now mem)) ⌝ }
-    ensures { λ _. ⌜ now (mem .exit) ≡ flatMove (now (mem .entry)) to from len ⌝ }
-{
-    let mut a = to;
-    let mut b = from;
-    let mut left = len;
-    while 0 < left {
-        mem[a] = mem[b];
-        a = a + 1;
-        b = b + 1;
-        left = left - 1;
-    }
-}
-
-// Byte by byte, left to right.
-fn move_each(mem: &mut [u8], map: &mut [u16], to: u32, from: u32, len: u32)
-    ensures { λ _. ⌜ framedOf (now (mem .exit)) (now (map .exit)) ≡ moveField (framedOf (now (mem .entry)) (now (map .entry))) to from len ⌝ }
-{
-    let mut a = to;
-    let mut b = from;
-    let mut left = len;
-    while 0 < left {
-        let v = lookup::read_byte(mem, map, b);
-        lookup::write_byte(mem, map, a, v);
-        a = lookup::next_of(a);
-        b = lookup::next_of(b);
-        left = left - 1;
-    }
-}
-
-// The code of the first two bytes that differ, or 0, piece by piece as in a move.
-pub fn compare_field(mem: &[u8], map: &[u16], first: u32, second: u32, len: u32) -> u32
-    ensures { λ r. ⌜ r ≡ compareField (framedOf (now (mem .entry)) (now (map .entry))) first second len ⌝ }
-{
-    let mut a = first;
-    let mut b = second;
-    let mut left = len;
-    while 0 < left {
-        let one = lookup::look_up(map, mem.len(), Access::Load, a);
-        let Look::At(x, room) = one else {
-            return compare_each(mem, map, a, b, left);
-        };
-        let other = lookup::look_up(map, mem.len(), Access::Load, b);
-        let Look::At(y, more) = other else {
-            return compare_each(mem, map, a, b, left);
-        };
-        let step = lookup::fewer_of(lookup::fewer_of(left, room as usize), more as usize);
-        let code = compare_flat(mem, x, y, step);
-        if code != 0 {
-            return code;
-        }
-        a = lookup::past_of(a, step);
-        b = lookup::past_of(b, step);
-        left = left - step;
-    }
-    0
-}
-
-pub fn compare_flat(mem: &[u8], first: usize, second: usize, len: u32) -> u32
-    requires { ⌜ (first + len ≤ length (now mem)) × (second + len ≤ length (now mem)) ⌝ }
-    ensures { λ r. ⌜ r ≡ flatCompare (now (mem .entry)) first second len ⌝ }
-{
-    let mut a = first;
-    let mut b = second;
-    let mut left = len;
-    while 0 < left {
-        let x = mem[a];
-        let y = mem[b];
-        if x < y {
-            return 1;
-        }
-        if y < x {
-            return 2;
-        }
-        a = a + 1;
-        b = b + 1;
-        left = left - 1;
-    }
-    0
-}
-
-fn compare_each(mem: &[u8], map: &[u16], first: u32, second: u32, len: u32) -> u32
-    ensures { λ r. ⌜ r ≡ compareField (framedOf (now (mem .entry)) (now (map .entry))) first second len ⌝ }
-{
-    let mut a = first;
-    let mut b = second;
-    let mut left = len;
-    while 0 < left {
-        let x = lookup::read_byte(mem, map, a);
-        let y = lookup::read_byte(mem, map, b);
-        if x < y {
-            return 1;
-        }
-        if y < x {
-            return 2;
-        }
-        a = lookup::next_of(a);
-        b = lookup::next_of(b);
-        left = left - 1;
-    }
-    0
 }

@@ -3,3 +3,4 @@ mod Multiples
 mod SignedShifts
 pub mod MultiplesReached
 pub mod BothReached
+pub mod Ways

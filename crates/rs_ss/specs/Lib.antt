@@ -1,2 +1,3 @@
--- Working definitions for Load Multiple and Store Multiple.
+-- Working definitions for Load Multiple and Store Multiple, and for the ends of moves and compares.
 pub mod Multiple
+pub mod Ended
