@@ -1,12 +1,16 @@
 //! Calls of the engine with lists of any length and numbers of any size, as the program `probe` reads them.
 //!
-//! A call in bytes, all numbers big-endian: kind (1 byte: 0 a step, 1 a run, 2 a look-up); length of memory (4 bytes), number of page
-//! words (2) and of registers (1); page words (2 each); registers (4 each); counter, code, mask and budget (4 each); number of pieces of
-//! memory (2); pieces: address (4), length (1), the bytes. What no piece names is zero.
+//! A call in bytes, all numbers big-endian: kind (1 byte: 0 a step, 1 a run, 2 a look-up, 3 a step by the plain way); length of memory
+//! (4 bytes), number of page words (2) and of registers (1); page words (2 each); registers (4 each); counter, code, mask and budget (4
+//! each); number of pieces of memory (2); pieces: address (4), length (1), the bytes. What no piece names is zero.
 //!
 //! A look-up has the very same form. Its counter is the address that is looked up, and its code what the byte is wanted for: 0 a fetch,
 //! 1 a load, 2 a store; with any other code the call is malformed. Mask and budget play no part. There is no number 6: a page for which
 //! the map has no word has word 0, memory ends where it ends, and an address of 2^24 or more is one of 2,097,152 or more.
+//!
+//! A step by the plain way has the form of a step, and does the move or the compare at the counter byte by byte, whatever quicker way
+//! the engine has. The counter is even, the instruction is MVC or CLC and can be fetched whole, and the pages that it is fetched from are
+//! marked as accessed already. Its outcome is that of the step, and told in the same way.
 //!
 //! An outcome in text, numbers in decimal, fields parted by tabs: lines ANSWER number, place, count; STATE counter, code, mask; REGS
 //! all of them; MAP all page words; MEMORY its checksum. A look-up's outcome is a single line: LOOK 0, real address, reach; or, refused,
@@ -20,6 +24,8 @@ pub enum Kind {
     Run(u32),
     /// A look-up: the counter is the address, the code what the byte is wanted for.
     LookUp,
+    /// A step, of a move or a compare byte by byte.
+    Plain,
 }
 
 /// A call to be written.
@@ -40,6 +46,7 @@ impl Call<'_> {
             Kind::Step => (0, 0),
             Kind::Run(budget) => (1, budget),
             Kind::LookUp => (2, 0),
+            Kind::Plain => (3, 0),
         };
         all.push(kind);
         all.extend((self.memory.len() as u32).to_be_bytes());

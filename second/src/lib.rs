@@ -16,6 +16,7 @@ pub mod look_ups;
 pub mod loose;
 pub mod machine;
 pub mod many;
+pub mod moves;
 pub mod operations;
 mod pairs;
 pub mod print;
@@ -27,6 +28,7 @@ pub mod scene;
 pub mod seen;
 pub mod sheet;
 pub mod stretches;
+pub mod strips;
 pub mod sweeps;
 mod wide;
 

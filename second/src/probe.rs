@@ -22,6 +22,12 @@ impl Case {
         Case { kind, machine }
     }
 
+    /// A move or a compare, of an engine that has two ways by the plain one.
+    pub fn plain(machine: Machine) -> Case {
+        let kind = Kind::Plain;
+        Case { kind, machine }
+    }
+
     pub fn run(machine: Machine, budget: u32) -> Case {
         let kind = Kind::Run(budget);
         Case { kind, machine }
@@ -84,6 +90,7 @@ impl Case {
             0 => Kind::Step,
             1 => Kind::Run(budget),
             2 if machine.code < 3 => Kind::LookUp,
+            3 => Kind::Plain,
             _ => return None,
         };
         Some((Case { kind, machine }, reader.left))
@@ -92,7 +99,8 @@ impl Case {
     /// What the machine makes of it, in text.
     pub fn outcome(mut self) -> String {
         let (number, place, count) = match self.kind {
-            Kind::Step => {
+            // This machine has the plain way alone.
+            Kind::Step | Kind::Plain => {
                 let step = self.machine.step();
                 let count = u32::from(step.number == COMPLETED);
                 (step.number, step.place, count)
@@ -159,13 +167,16 @@ mod tests {
     use super::*;
     use crate::edges;
     use crate::loose::Loose;
+    use crate::moves::Moves;
 
     #[test]
     fn a_case_is_read_back() {
         let mut loose = Loose::new(3);
         let mut cases = edges::cases();
+        let mut moves = Moves::new(3);
         for _ in 0..300 {
             cases.extend(loose.cases());
+            cases.extend(moves.cases());
         }
         let mut all = Vec::new();
         for case in &cases {
@@ -196,7 +207,7 @@ mod tests {
     }
 
     #[test]
-    fn a_look_up_has_three_codes_and_a_call_three_kinds() {
+    fn a_look_up_has_three_codes_and_a_call_four_kinds() {
         for code in 0..3 {
             let bytes = in_bytes(2, code);
             let (case, left) = Case::split(&bytes).expect("a look-up");
@@ -207,11 +218,13 @@ mod tests {
         for code in [3, 4, 256, u32::MAX] {
             assert_eq!(Case::split(&in_bytes(2, code)), None);
             // A step with such a code is a call; the door refuses it.
-            let bytes = in_bytes(0, code);
-            let (case, _) = Case::split(&bytes).expect("a step");
-            assert_eq!(case.kind, Kind::Step);
+            for (kind, read) in [(0, Kind::Step), (3, Kind::Plain)] {
+                let bytes = in_bytes(kind, code);
+                let (case, _) = Case::split(&bytes).expect("a step");
+                assert_eq!(case.kind, read);
+            }
         }
-        for kind in [3, 4, 255] {
+        for kind in [4, 5, 255] {
             assert_eq!(Case::split(&in_bytes(kind, 1)), None);
         }
     }
