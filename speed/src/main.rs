@@ -15,6 +15,7 @@ mod differ;
 mod engine;
 mod hercules;
 mod machine;
+mod month_end;
 mod ordinary;
 mod programs;
 mod proved;

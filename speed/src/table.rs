@@ -50,7 +50,7 @@ pub fn units(programs: &[&Program]) -> String {
         .iter()
         .any(|program| program.units != program.instructions)
     {
-        said += "\nof moves and compares: what a round takes, 8 of them and a branch, divided by 8";
+        said += "\nof moves and compares: what a round takes, some of them and a branch, divided by their number";
     }
     said
 }
