@@ -3,6 +3,7 @@
 //!     table FOLDER PROGRAMS WITHOUT REPEATS
 //!     check FOLDER PROGRAMS WITHOUT
 //!     counts FOLDER PROGRAMS
+//!     sheet REPEATS
 //!     once ENGINE PROGRAM ROUNDS
 //!
 //! where FOLDER is for its files, PROGRAMS are letters, and WITHOUT says why there is no Hercules, or is empty.
@@ -15,15 +16,20 @@ mod differ;
 mod engine;
 mod hercules;
 mod machine;
+mod month_end;
 mod ordinary;
 mod programs;
 mod proved;
+mod sheet_timing;
+mod sheets;
 mod table;
 mod timing;
 
 use engine::ENGINES;
 use hercules::Hercules;
 use programs::{Program, PROGRAMS};
+use sheet_timing::TimedSheet;
+use sheets::SHEETS;
 use std::env;
 use std::path::Path;
 use std::process::ExitCode;
@@ -69,12 +75,17 @@ fn check(folder: &str, letters: &str, without: &str) -> Result<(), Trouble> {
     let hercules = begin_hercules(folder, without)?;
     let mut agreed = check_programs(&chosen(letters)?, hercules.as_ref())?;
     agreed += check::generated().map_err(Trouble::Differs)?;
+    agreed += sheets::check().map_err(Trouble::Differs)?;
     println!("speed: {agreed} checks passed");
     Ok(())
 }
 
+fn number(word: &str) -> Result<u32, Trouble> {
+    word.parse().map_err(|_| other("not a number"))
+}
+
 fn times(folder: &str, letters: &str, without: &str, repeats: &str) -> Result<(), Trouble> {
-    let repeats: u32 = repeats.parse().map_err(|_| other("not a number"))?;
+    let repeats = number(repeats)?;
     let programs = chosen(letters)?;
     let hercules = begin_hercules(folder, without)?;
     let hercules = hercules.as_ref();
@@ -108,11 +119,24 @@ fn counts(folder: &str, letters: &str) -> Result<(), Trouble> {
     Ok(())
 }
 
+fn sheets(repeats: &str) -> Result<(), Trouble> {
+    let repeats = number(repeats)?;
+    let agreed = sheets::check().map_err(Trouble::Differs)?;
+    println!("checked: {agreed} answers are as they should be");
+    let mut timed: Vec<_> = SHEETS.iter().map(TimedSheet::new).collect();
+    for _ in 0..repeats {
+        timed.iter_mut().for_each(TimedSheet::again);
+    }
+    println!("figures: processor time, best of {repeats}: a whole sheet in us, and that divided by its moves and compares in ns\n");
+    table::print_sheets(&timed);
+    Ok(())
+}
+
 /// One program on one engine, for callgrind to count.
 fn once(engine: &str, letters: &str, rounds: &str) -> Result<(), Trouble> {
     let engine = ENGINES.iter().find(|one| one.word() == engine);
     let engine = engine.ok_or(other("no such engine"))?;
-    let rounds = rounds.parse().map_err(|_| other("not a number"))?;
+    let rounds = number(rounds)?;
     for program in chosen(letters)? {
         engine.run_out(&mut program.machine(rounds));
     }
@@ -130,6 +154,7 @@ fn main() -> ExitCode {
         ["table", folder, letters, without, repeats] => times(folder, letters, without, repeats),
         ["check", folder, letters, without] => check(folder, letters, without),
         ["counts", folder, letters] => counts(folder, letters),
+        ["sheet", repeats] => sheets(repeats),
         ["once", engine, letters, rounds] => once(engine, letters, rounds),
         _ => Err(other("started by ./speed/run")),
     };

@@ -1,8 +1,9 @@
-//! The programs that are timed: nine loops, the same bytes for every engine. Code is at 002000 in page 2, data in pages 4 and 5.
+//! The programs that are timed: ten loops, the same bytes for every engine. Code is at 002000 in page 2, data in pages 4 and 5.
 //! R12 holds the code's address and R11 the number of rounds; a program ends on the zeros behind it, which are no operation. Two of
-//! them, m and n, are g and c once more, in pages of 2,048 bytes.
+//! them, m and n, are g and c once more, in pages of 2,048 bytes; h has whole pages, and page 3 of 2,048 bytes.
 
 use crate::machine::{Machine, PAGE};
+use crate::month_end;
 use common::bytes::from_hex;
 
 pub struct Program {
@@ -27,7 +28,7 @@ enum Data {
     One,
     /// Page 4 counts its bytes up.
     Counting,
-    /// Pages 4 and 5 count up alike.
+    /// All pages of data count up alike.
     Alike,
 }
 
@@ -35,6 +36,8 @@ enum Data {
 enum Pages {
     Whole,
     Halves,
+    /// Whole ones, and one more that is a half.
+    Both,
 }
 
 /// A page of a program: where it lies, and its word.
@@ -48,6 +51,8 @@ pub struct Place {
 /// A page, its frame, and so that the map has something to do, not the frame of its own number; and which half of it where pages are
 /// halves, 0 or 1.
 const PLACES: [(usize, usize, usize); 3] = [(2, 7, 0), (4, 9, 1), (5, 3, 0)];
+/// Of the program that has pages of both kinds, the page that is a half.
+const ONE_MORE: (usize, usize, usize) = (3, 12, 1);
 const OPEN: u16 = 0x3000;
 /// M, and H for the upper half.
 const HALF: u16 = 0x0400;
@@ -57,7 +62,7 @@ const MEMORY: usize = 65_536;
 const ROUNDS: usize = 11;
 
 /// BCT 11, to the first instruction.
-const AGAIN: &str = "46B0C000";
+pub const AGAIN: &str = "46B0C000";
 
 /// g and c: what a job does most, and what it moves.
 const MIXED: &[&str] = &[
@@ -73,7 +78,7 @@ const MOVES: &[&str] = &[
 ];
 const MOVES_REGISTERS: &[(usize, u32)] = &[(4, 0x4000), (5, 0x5000)];
 
-pub const PROGRAMS: [Program; 9] = [
+pub const PROGRAMS: [Program; 10] = [
     Program {
         name: 'a',
         title: "AR AR SR AR LR XR ALR BCT",
@@ -164,6 +169,17 @@ pub const PROGRAMS: [Program; 9] = [
         instructions: 1127,
     },
     Program {
+        name: 'h',
+        title: "month end: MVC, CLC of many lengths",
+        code: month_end::CODE,
+        registers: month_end::REGISTERS,
+        data: Data::Alike,
+        pages: Pages::Both,
+        unit: "move or compare",
+        units: month_end::UNITS,
+        instructions: month_end::UNITS + 1,
+    },
+    Program {
         name: 'm',
         title: "g in pages of 2,048 bytes",
         code: MIXED,
@@ -198,41 +214,56 @@ fn count_up(bytes: &mut [u8]) {
     }
 }
 
+fn whole((page, frame, _): (usize, usize, usize)) -> Place {
+    Place {
+        page,
+        real: frame * PAGE,
+        bytes: PAGE,
+        word: OPEN | frame as u16,
+    }
+}
+
+fn half((page, frame, half): (usize, usize, usize)) -> Place {
+    Place {
+        page,
+        real: frame * PAGE + half * PAGE / 2,
+        bytes: PAGE / 2,
+        word: OPEN | HALF | (UPPER * half as u16) | frame as u16,
+    }
+}
+
 impl Program {
-    /// Code, and the two pages of data.
-    pub fn places(&self) -> [Place; 3] {
-        PLACES.map(|(page, frame, half)| match self.pages {
-            Pages::Whole => Place {
-                page,
-                real: frame * PAGE,
-                bytes: PAGE,
-                word: OPEN | frame as u16,
-            },
-            Pages::Halves => Place {
-                page,
-                real: frame * PAGE + half * PAGE / 2,
-                bytes: PAGE / 2,
-                word: OPEN | HALF | UPPER * half as u16 | frame as u16,
-            },
-        })
+    /// Code, then the pages of data: two, or three where there is one more.
+    pub fn places(&self) -> Vec<Place> {
+        match self.pages {
+            Pages::Whole => PLACES.map(whole).into(),
+            Pages::Halves => PLACES.map(half).into(),
+            Pages::Both => PLACES
+                .map(whole)
+                .into_iter()
+                .chain([half(ONE_MORE)])
+                .collect(),
+        }
     }
 
     /// The machine before so many rounds, at least one.
     pub fn machine(&self, rounds: u32) -> Machine {
         let mut machine = Machine::new(MEMORY);
-        let [first, from, to] = self.places();
-        for place in [&first, &from, &to] {
+        let places = self.places();
+        for place in &places {
             machine.map[place.page] = place.word;
         }
         let code = from_hex(&self.code.concat());
-        bytes(&mut machine, &first)[..code.len()].copy_from_slice(&code);
+        bytes(&mut machine, &places[0])[..code.len()].copy_from_slice(&code);
+        let data = &places[1..];
         match self.data {
             Data::Zeros => {}
-            Data::One => bytes(&mut machine, &from)[3] = 1,
-            Data::Counting => count_up(bytes(&mut machine, &from)),
+            Data::One => bytes(&mut machine, &data[0])[3] = 1,
+            Data::Counting => count_up(bytes(&mut machine, &data[0])),
             Data::Alike => {
-                count_up(bytes(&mut machine, &from));
-                count_up(bytes(&mut machine, &to));
+                for place in data {
+                    count_up(bytes(&mut machine, place));
+                }
             }
         }
         for (register, word) in self.registers {

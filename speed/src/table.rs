@@ -2,6 +2,7 @@
 
 use crate::engine::ENGINES;
 use crate::programs::Program;
+use crate::sheet_timing::TimedSheet;
 use crate::timing::Timed;
 
 const TITLE: usize = 40;
@@ -50,7 +51,7 @@ pub fn units(programs: &[&Program]) -> String {
         .iter()
         .any(|program| program.units != program.instructions)
     {
-        said += "\nof moves and compares: what a round takes, 8 of them and a branch, divided by 8";
+        said += "\nof moves and compares: what a round takes, some of them and a branch, divided by their number";
     }
     said
 }
@@ -73,5 +74,29 @@ pub fn print_counts(counted: &[(&Program, Vec<f64>)]) {
         let mut columns: Vec<String> = counts.iter().map(|value| figure(*value)).collect();
         columns.push(ratio(counts[0], counts[2]));
         line(&title(program), &columns);
+    }
+}
+
+/// Whole sheets in microseconds; then, where something is moved, all of that divided by the number of moves, in nanoseconds.
+pub fn print_sheets(timed: &[TimedSheet]) {
+    let heads = [
+        "moves", "this, us", "Rust, us", "this, ns", "Rust, ns", "to Rust",
+    ];
+    line("", &heads.map(String::from));
+    for one in timed {
+        let [own, other] = one.figures();
+        let each = |value: f64| match one.moves {
+            0 => "-".to_string(),
+            moves => figure(value / f64::from(moves)),
+        };
+        let columns = [
+            one.moves.to_string(),
+            figure(own / 1e3),
+            figure(other / 1e3),
+            each(own),
+            each(other),
+            ratio(own, other),
+        ];
+        line(one.sheet.title, &columns);
     }
 }

@@ -27,10 +27,10 @@ fn measure(engine: Engine, program: &Program, rounds: u32) -> Duration {
 }
 
 /// Rounds that last long enough.
-fn rounds_for(engine: Engine, program: &Program) -> u32 {
+pub fn long_enough(measure: impl Fn(u32) -> Duration) -> u32 {
     let mut rounds = 4;
     loop {
-        let took = measure(engine, program, rounds);
+        let took = measure(rounds);
         if took >= LONG_ENOUGH / 8 {
             let more = LONG_ENOUGH.as_secs_f64() / took.as_secs_f64();
             return (f64::from(rounds) * more.max(1.0)).ceil() as u32;
@@ -50,7 +50,8 @@ fn rounds_for_hercules(hercules: &Hercules, program: &Program) -> Result<u32, St
 
 impl Timed<'_> {
     pub fn new<'a>(program: &'a Program, hercules: Option<&Hercules>) -> Result<Timed<'a>, String> {
-        let start = |engine: Engine| (engine, rounds_for(engine, program), Duration::MAX);
+        let rounds = |engine| long_enough(|rounds| measure(engine, program, rounds));
+        let start = |engine: Engine| (engine, rounds(engine), Duration::MAX);
         let hercules = match hercules {
             Some(hercules) => Some((
                 rounds_for_hercules(hercules, program)?,
