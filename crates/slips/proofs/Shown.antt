@@ -7,6 +7,7 @@ use Rattle.slips.specs.Words as words
 use Rattle.slips.specs.Wide as wide
 use Rattle.slips.specs.Pages as pages
 use Rattle.slips.specs.Moves as moves
+use Rattle.slips.specs.Pieces as pieces
 use Rattle.slips.specs.Refusals as refusals
 use Rattle.slips.specs.Marks as marks
 use Rattle.slips.specs.Operations as operations
@@ -35,6 +36,10 @@ pages-shown = refl
 pub moves-shown : unshown moves.slips ≡ []
 unfolding computes
 moves-shown = refl
+
+pub pieces-shown : unshown pieces.slips ≡ []
+unfolding computes
+pieces-shown = refl
 
 pub refusals-shown : unshown refusals.slips ≡ []
 unfolding computes

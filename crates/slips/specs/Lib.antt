@@ -5,6 +5,7 @@ pub mod Words
 pub mod Wide
 pub mod Pages
 pub mod Moves
+pub mod Pieces
 pub mod Refusals
 pub mod Marks
 pub mod Operations

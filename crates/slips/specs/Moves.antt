@@ -84,7 +84,7 @@ withoutLast f c =
     (compares (firstAddress f c) (secondAddress f c) (f .l) (λ k. done (withCode (onward c 6) k))))
 
 -- a move by real address, which goes on into the next frame where the next page lies elsewhere
-abbrev alongFrames : Framed → ℕ → ℕ → ℕ → Framed
+abbrev pub alongFrames : Framed → ℕ → ℕ → ℕ → Framed
 alongFrames s a b n = framedOf (go (at a) (at b) n (s .mem)) (writtenAt (s .map) a)
   where
     at : ℕ → ℕ
@@ -94,13 +94,17 @@ alongFrames s a b n = framedOf (go (at a) (at b) n (s .mem)) (writtenAt (s .map)
     go r q zero mem = mem
     go r q (suc n) mem = go (r + 1) (q + 1) n (set mem r (getD mem q 0))
 
--- the work of a move alone, from address b to a, as the machine's program does it: `fields::move_field`
-abbrev worked : Framed → ℕ → ℕ → ℕ → Framed
-worked s a b n = store (interp framed (moves a b n (done tt)) s s)
+-- what a program leaves in the store
+abbrev pub stored : Framed → Prog (Unit {0}) → Framed
+stored s program = store (interp framed program s s)
   where
     store : Answer (Unit {0}) Framed → Framed
     store (finished r t) = t
     store (refused m p t) = t
+
+-- the work of a move alone, from address b to a, as the machine's program does it: `fields::move_field`
+abbrev pub worked : Framed → ℕ → ℕ → ℕ → Framed
+worked s a b n = stored s (moves a b n (done tt))
 
 -- two frames of memory; pages 10 and 11 both on the first
 abbrev folded : Framed
@@ -112,7 +116,7 @@ firsts s = getD (s .mem) 0 0 ∷ getD (s .mem) 4096 0 ∷ []
 
 -- This instruction at 00A000, and bytes 11 22 33 44 at 00A008; page 10 ends with 55 66; page 11's word. Registers 2, 3 and 4 have the
 -- addresses of 55, of 11 and of page 11.
-abbrev crossing : List ℕ → ℕ → Given
+abbrev pub crossing : List ℕ → ℕ → Given
 crossing instruction word =
     lent (instruction ++ 0 ∷ 0 ∷ 0x11 ∷ 0x22 ∷ 0x33 ∷ 0x44 ∷ []) (replicate 14 0 ++ 0x55 ∷ 0x66 ∷ []) word
     (0 ∷ 0 ∷ 0xaffe ∷ 0xa008 ∷ 0xb000 ∷ [])
