@@ -1,6 +1,6 @@
 // A case, all numbers big-endian:
 //
-//     kind, 1 byte: 0 a step, 1 a run, 2 a look-up
+//     kind, 1 byte: 0 a step, 1 a run, 2 a look-up, 3 a step that is a move or a compare, byte by byte
 //     length of memory, 4 bytes, at most 270,336
 //     number of page words, 2 bytes, at most 600
 //     number of registers, 1 byte, at most 32

@@ -1,4 +1,4 @@
-// What a sheet cannot show: calls of the engine's entries, and of the look-up, with lists of any length and numbers of any size. Reads cases from
+// What a sheet cannot show: calls of the engine's entries, of the look-up, and of a move or compare by the plain way, with lists of any length and numbers of any size. Reads cases from
 // standard input (case.rt has their form) and writes each outcome, whole, to standard output (told.rt). The input may end between
 // two cases. Where it ends within one, is not of that form or cannot be read, and where an outcome cannot be written, standard
 // error has a line that says so, and the program ends.
@@ -8,8 +8,11 @@ mod case;
 mod input;
 mod told;
 
+use actions::Now;
+use actions::Out;
 use case::Head;
 use case::Scalars;
+use code::SsAction;
 use machine::Reply;
 use pages::Access;
 use pages::Look;
@@ -47,6 +50,54 @@ fn look(map: &[u16], size: usize, s: Scalars) -> Course {
     }
 }
 
+// A step's reply, by what an executor answered.
+fn reply_of(out: Out, s: Scalars) -> Reply {
+    match out {
+        Out::Done(now) => Reply {
+            number: 0,
+            place: 0,
+            count: 1,
+            pc: now.pc,
+            code: now.code,
+            mask: now.mask,
+        },
+        Out::Stop(number, place) => Reply {
+            number: number,
+            place: place,
+            count: 0,
+            pc: s.pc,
+            code: s.code,
+            mask: s.mask,
+        },
+    }
+}
+
+// The move or compare at the counter, byte by byte. Its code pages are taken to have their marks.
+fn plain(mem: &mut [u8], map: &mut [u16], regs: &[u32], s: Scalars) -> Course {
+    let h1 = fields::read_half(mem, map, s.pc);
+    let h2 = fields::read_half(mem, map, lookup::past_of(s.pc, 2));
+    let h3 = fields::read_half(mem, map, lookup::past_of(s.pc, 4));
+    let op = h1 / 256;
+    if op != 0xD2 {
+        if op != 0xD5 {
+            return Course::Malformed;
+        }
+    }
+    let action = if op == 0xD2 {
+        SsAction::MoveField
+    } else {
+        SsAction::CompareField
+    };
+    let c = Now {
+        pc: s.pc,
+        code: s.code,
+        mask: s.mask,
+    };
+    let split = decode::split_ss(h1, h2, h3);
+    let out = rs_ss::plain::execute(regs, mem, map, c, action, split);
+    told::write(reply_of(out, s), regs, map, mem)
+}
+
 // A case whose lists stand: its pieces, and the call.
 fn finish(mem: &mut [u8], map: &mut [u16], regs: &mut [u32], kind: u32, s: Scalars) -> Course {
     let course = case::take_memory(mem, s.pieces);
@@ -55,6 +106,9 @@ fn finish(mem: &mut [u8], map: &mut [u16], regs: &mut [u32], kind: u32, s: Scala
     }
     if kind == 2 {
         return look(map, mem.len(), s);
+    }
+    if kind == 3 {
+        return plain(mem, map, regs, s);
     }
     let reply = call(mem, map, regs, kind == 1, s);
     told::write(reply, regs, map, mem)
@@ -82,7 +136,7 @@ fn answer(head: Head, bytes: &[u8; 1346]) -> Course
 
 // A case after its head.
 fn answer_to(head: Head) -> Course {
-    if head.kind > 2 {
+    if head.kind > 3 {
         return Course::Malformed;
     }
     if head.mem > 270336 {

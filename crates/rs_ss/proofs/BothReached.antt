@@ -1,4 +1,4 @@
--- Two fields, by the look-ups of their first bytes: refused at one of them, or reached whole, and then moved or compared by real address.
+-- Two fields, by the look-ups of their first bytes: refused at the first, or reached whole, and then moved or compared by real address.
 use Prim.Native.Nat.{ℕ, zero, suc, _+_, _%_, _<_, _≤_}
 use native.Mathlib.Omega.{arith}
 use mathlib.Core.Path.{_≡_, refl, sym, _∙_, ap}
@@ -26,12 +26,6 @@ module _ (map : List ℕ) (size : ℕ) (f g : Field) (one : Look) (e : one ≡ l
   first-refused h rest c p r = look-stop map size (f .access) (f .at) _ one e (f .len) h c p r
 
   module _ (x k : ℕ) (t : one ≡ At x k) (h : f .len ≤ k) (two : Look) (d : two ≡ lookOf map size (g .access) (g .at)) where
-    pub second-refused : 0 < g .len → (rest : Look) (c : Cause) (p : ℕ) → two ≡ Refused c p → two ≡ lookFields map size (f ∷ g ∷ []) rest
-    unfolding lookFields
-    second-refused l rest c p r =
-        look-stop map size (g .access) (g .at) rest two d (g .len) l c p r
-        ∙ sym (reach-clear map size (f .access) (f .at) x k (sym e ∙ t) (f .len) h _)
-
     pub both-found : (y j : ℕ) → two ≡ At y j → g .len ≤ j → one ≡ lookFields map size (f ∷ g ∷ []) (lookOf map size (f .access) (f .at))
     unfolding lookFields
     both-found y j s l =
