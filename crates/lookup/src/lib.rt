@@ -105,7 +105,7 @@ struct Rest {
     left: u32,
 }
 
-// One test for both, and the commoner kind of page first: the compiler then makes no more of it than of a page that is always 4,096 bytes.
+// One test for both, and the commoner kind of page first.
 fn rest_of(w: u16, a: u32) -> Rest
     ensures { λ r. ⌜ (r .base ≡ base w) × (r .left ≡ size w - dispOf a) × (r .base < 262144) ⌝ }
 {
