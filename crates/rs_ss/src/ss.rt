@@ -54,7 +54,7 @@ pub fn compared(regs: &[u32], c: Now, order: Order) -> Out
     }
 }
 
-// MVC. What the look-ups found is handed on, so that no byte is asked for twice.
+// MVC. What the look-ups found is handed on over an edge, so that no stretch is asked for twice.
 fn move_fields(regs: &[u32], mem: &mut [u8], map: &mut [u16], c: Now, f: SsFields) -> Out
     ensures { λ r. ⌜ told r (now (regs .entry)) c (framedOf (now (mem .exit)) (now (map .exit))) ≡ doing (ss SsAction.MoveField f) (now (regs .entry)) c (framedOf (now (mem .entry)) (now (map .entry))) ⌝ }
 {
