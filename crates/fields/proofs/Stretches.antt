@@ -5,7 +5,7 @@ use native.Mathlib.Numerals.{unary-clauses}
 use mathlib.Core.Path.{_≡_, refl, sym, _∙_}
 use mathlib.Core.Bool.{Bool, true, false}
 use mathlib.Core.List.{List}
-use borrow.Author.Tests.{eqb-false, eq-eqb}
+use borrow.Author.Tests.{eqb-true, eqb-false, eq-eqb}
 use lib.Dec.{eqb}
 use lib.ListN.{length, getD, set, length-set}
 use lib.Seq.{getD-set-same}
@@ -63,6 +63,52 @@ alike-more mem a b i e h =
     ∙ flat-compare-turn mem (a + i) (b + i) _ _ refl refl (i + 1 - i) (omega arith) (omega arith) (omega arith)
     ∙ flat-compare-none mem (a + i + 1) (b + i + 1) (i + 1 - i - 1) (omega arith)
 
+-- what begins a stretch that is alike is alike
+pub alike-fewer : (s : ℕ) (mem : List ℕ) (a b n : ℕ) → flatCompare mem a b n ≡ 0 → s ≤ n → flatCompare mem a b s ≡ 0
+unfolding flatCompare
+alike-fewer zero mem a b n e h = refl
+alike-fewer (suc s) mem a b zero e h = absurd (omega arith)
+alike-fewer (suc s) mem a b (suc n) e h =
+    go (eqb (getD mem a 0) (getD mem b 0)) refl (λ k. alike-fewer s mem (a + 1) (b + 1) n k (omega arith)) e
+  where
+    go : (q : Bool) → eqb (getD mem a 0) (getD mem b 0) ≡ q
+        → (flatCompare mem (a + 1) (b + 1) n ≡ 0 → flatCompare mem (a + 1) (b + 1) s ≡ 0)
+        → pick q (flatCompare mem (a + 1) (b + 1) n) (compareBits (getD mem a 0) (getD mem b 0)) ≡ 0
+        → pick q (flatCompare mem (a + 1) (b + 1) s) (compareBits (getD mem a 0) (getD mem b 0)) ≡ 0
+    go true f rest k = rest k
+    go false f rest k = k
+
+-- the first bytes of stretches that are alike
+pub alike-first : (mem : List ℕ) (a b n : ℕ) → flatCompare mem a b n ≡ 0 → 0 < n → getD mem a 0 ≡ getD mem b 0
+unfolding flatCompare
+alike-first mem a b zero e h = absurd (omega arith)
+alike-first mem a b (suc n) e h = go (eqb (getD mem a 0) (getD mem b 0)) refl e
+  where
+    go : (q : Bool) → eqb (getD mem a 0) (getD mem b 0) ≡ q
+        → pick q (flatCompare mem (a + 1) (b + 1) n) (compareBits (getD mem a 0) (getD mem b 0)) ≡ 0 → getD mem a 0 ≡ getD mem b 0
+    go true f k = eqb-true (getD mem a 0) (getD mem b 0) f
+    go false f k = absurd (eqb-false (compareBits (getD mem a 0) (getD mem b 0)) 0 (unlike-code (getD mem a 0) (getD mem b 0) f) k)
+
+-- and the bytes at i
+pub alike-at : (mem : List ℕ) (a b i : ℕ) → flatCompare mem a b (i + 1) ≡ 0 → getD mem (a + i) 0 ≡ getD mem (b + i) 0
+alike-at mem a b i e =
+    alike-first mem (a + i) (b + i) (i + 1 - i)
+    (sym (flat-compare-on i mem a b (i + 1) (alike-fewer i mem a b (i + 1) e (omega arith)) (omega arith)) ∙ e)
+    (omega arith)
+
+-- bytes that are alike make one number
+pub alike-flat : (n : ℕ) (mem : List ℕ) (a b v : ℕ) → flatCompare mem a b n ≡ 0 → flat mem a n v ≡ flat mem b n v
+unfolding flat flatCompare
+alike-flat zero mem a b v e = refl
+alike-flat (suc n) mem a b v e = go (eqb (getD mem a 0) (getD mem b 0)) refl (alike-flat n mem (a + 1) (b + 1) (v * 256 + getD mem b 0)) e
+  where
+    go : (q : Bool) → eqb (getD mem a 0) (getD mem b 0) ≡ q
+        → (flatCompare mem (a + 1) (b + 1) n ≡ 0 → flat mem (a + 1) n (v * 256 + getD mem b 0) ≡ flat mem (b + 1) n (v * 256 + getD mem b 0))
+        → pick q (flatCompare mem (a + 1) (b + 1) n) (compareBits (getD mem a 0) (getD mem b 0)) ≡ 0
+        → flat mem (a + 1) n (v * 256 + getD mem a 0) ≡ flat mem (b + 1) n (v * 256 + getD mem b 0)
+    go true f rest k = rw (eqb-true (getD mem a 0) (getD mem b 0) f) (rest k)
+    go false f rest k = absurd (eqb-false (compareBits (getD mem a 0) (getD mem b 0)) 0 (unlike-code (getD mem a 0) (getD mem b 0) f) k)
+
 -- two numbers of n bytes are equal only if the bytes are
 pub flat-alike : (n : ℕ) (mem : List ℕ) (a b v w : ℕ) → ((i : ℕ) → getD mem i 0 < 256) → flat mem a n v ≡ flat mem b n w
     → (v ≡ w) × (flatCompare mem a b n ≡ 0)
@@ -78,3 +124,10 @@ pub alike-eight : (mem : List ℕ) (a b : ℕ) → ((i : ℕ) → getD mem i 0 <
     → flat mem (a + 4) 4 0 ≡ flat mem (b + 4) 4 0 → flatCompare mem a b 8 ≡ 0
 alike-eight mem a b k e f =
     flat-compare-on 4 mem a b 8 (flat-alike 4 mem a b 0 0 k e .1) (omega arith) ∙ flat-alike 4 mem (a + 4) (b + 4) 0 0 k f .1
+
+pub eight-first : (mem : List ℕ) (a b : ℕ) → flatCompare mem a b 8 ≡ 0 → flat mem a 4 0 ≡ flat mem b 4 0
+eight-first mem a b e = alike-flat 4 mem a b 0 (alike-fewer 4 mem a b 8 e (omega arith))
+
+pub eight-second : (mem : List ℕ) (a b : ℕ) → flatCompare mem a b 8 ≡ 0 → flat mem (a + 4) 4 0 ≡ flat mem (b + 4) 4 0
+eight-second mem a b e =
+    alike-flat 4 mem (a + 4) (b + 4) 0 (sym (flat-compare-on 4 mem a b 8 (alike-fewer 4 mem a b 8 e (omega arith)) (omega arith)) ∙ e)

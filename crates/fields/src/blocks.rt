@@ -52,7 +52,7 @@ pub fn move_flat(mem: &mut [u8], to: usize, from: usize, len: u32)
 
 // How far two bytes lie apart, round the end of their range: 0 only of a byte and itself.
 fn apart(x: u8, y: u8) -> u8
-    ensures { λ r. ⌜ (r ≡ 0 → x ≡ y) ⌝ }
+    ensures { λ r. ⌜ (r ≡ 0 → x ≡ y) × (x ≡ y → r ≡ 0) ⌝ }
 {
     std::num::wrapping_sub_u8(x, y)
 }
@@ -60,7 +60,7 @@ fn apart(x: u8, y: u8) -> u8
 // Whether n bytes are alike, by the largest of their distances: no byte is left out, so that the compiler takes 16 at a time.
 fn is_alike(mem: &[u8], first: usize, second: usize, n: usize) -> bool
     requires { ⌜ (first + n ≤ length (now mem)) × (second + n ≤ length (now mem)) ⌝ }
-    ensures { λ r. ⌜ (r ≡ true → flatCompare (now (mem .entry)) first second n ≡ 0) ⌝ }
+    ensures { λ r. ⌜ (r ≡ true → flatCompare (now (mem .entry)) first second n ≡ 0) × (flatCompare (now (mem .entry)) first second n ≡ 0 → r ≡ true) ⌝ }
 {
     let mut most: u8 = 0;
     let mut i: usize = 0;
@@ -77,7 +77,7 @@ fn is_alike(mem: &[u8], first: usize, second: usize, n: usize) -> bool
 // Whether eight bytes are alike, by two words.
 fn is_eight(mem: &[u8], first: usize, second: usize) -> bool
     requires { ⌜ (first + 8 ≤ length (now mem)) × (second + 8 ≤ length (now mem)) ⌝ }
-    ensures { λ r. ⌜ (r ≡ true → flatCompare (now (mem .entry)) first second 8 ≡ 0) ⌝ }
+    ensures { λ r. ⌜ (r ≡ true → flatCompare (now (mem .entry)) first second 8 ≡ 0) × (flatCompare (now (mem .entry)) first second 8 ≡ 0 → r ≡ true) ⌝ }
 {
     if flat::word_of(mem, first) != flat::word_of(mem, second) {
         return false;

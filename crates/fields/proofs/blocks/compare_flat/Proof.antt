@@ -44,7 +44,7 @@ loop-less c = omega arith
 loop-again : tie.Need-loop-again Inv-loop μ-loop
 loop-again c = (
   c .before .before .before .loop .inv .0
-      ∙ flat-compare-on 64 _ _ _ _ (c .before .is-alike .ensures (not-false _ (c .if1 .left))) (c .before .before .loop-test .taken),
+      ∙ flat-compare-on 64 _ _ _ _ (c .before .is-alike .ensures .0 (not-false _ (c .if1 .left))) (c .before .before .loop-test .taken),
   omega arith,
   omega arith,
 )

@@ -1,7 +1,7 @@
 use native.Mathlib.Omega.{arith}
 use mathlib.Core.Path.{sym, _∙_}
-use borrow.Author.Tests.{eqb-true}
-use Rattle.fields.proofs.Stretches.{alike-eight}
+use borrow.Author.Tests.{eqb-true, eq-eqb}
+use Rattle.fields.proofs.Stretches.{alike-eight, eight-first, eight-second}
 use borrow.Author.Needs.{needs}
 use Rattle.fields.proofs.blocks.is_eight.Statement.{statement}
 use Rattle.fields.proofs.blocks.is_eight.Tie as tie
@@ -19,7 +19,10 @@ word-of-requires-2 c κs = search needs
 
 -- src/blocks.rt:83:9
 returns : tie.Need-returns
-returns c = λ z. cc
+returns c = (
+  λ z. cc,
+  λ z. absurd (c .if1 .taken (c .before .before .word-of .ensures ∙ eight-first _ _ _ z ∙ sym (c .before .word-of2 .ensures))),
+)
 
 -- src/blocks.rt:85:24
 add-word-of : tie.Need-add-word-of
@@ -39,10 +42,12 @@ word-of-requires-4 c κs = search needs
 
 -- src/blocks.rt:78:1
 returns-2 : tie.Need-returns-2
-returns-2 c =
-    λ z. alike-eight _ _ _ (λ i. omega (arith, c .before .before .before .before .before .shared-slice-known .given i))
-    (omega (arith, c .before .before .before .before .word-of .ensures, c .before .before .before .word-of2 .ensures, c .before .before .if1 .left))
-    (sym (c .before .word-of3 .ensures) ∙ eqb-true _ _ z ∙ c .word-of4 .ensures)
+returns-2 c = (
+  λ z. alike-eight _ _ _ (λ i. omega (arith, c .before .before .before .before .before .shared-slice-known .given i))
+      (omega (arith, c .before .before .before .before .word-of .ensures, c .before .before .before .word-of2 .ensures, c .before .before .if1 .left))
+      (sym (c .before .word-of3 .ensures) ∙ eqb-true _ _ z ∙ c .word-of4 .ensures),
+  λ z. eq-eqb _ _ (c .before .word-of3 .ensures ∙ eight-second _ _ _ z ∙ sym (c .word-of4 .ensures)),
+)
 
 pub is-eight-spec : {M : Type 1} → statement M
 is-eight-spec =
