@@ -7,8 +7,10 @@ use Rattle.pages.specs.declared.Access.{Access}
 use Rattle.pages.specs.declared.Cause.{Cause}
 use Rattle.pages.specs.declared.Look.{Look}
 use Rattle.pages.specs.declared.Look.the-variants.{At, Refused}
-use Rattle.pages.specs.Word.{next}
-use Rattle.pages.specs.Look.{lookOf}
+use Rattle.words.proofs.Choice.{by-order}
+use Rattle.pages.specs.Word.{pageOf, next}
+use Rattle.pages.specs.Look.{lookOf, verdictOf}
+use Rattle.pages.proofs.ReachLaws.{reach-some, reach-below, reach-fits, reach-page, reach-behind, reach-largest}
 use Rattle.fields.specs.Direct.{orElse, lookField, lookOne, Clear}
 use Rattle.fields.proofs.Pieces.{look-pieces}
 use Rattle.fields.proofs.Reached.{reach-on}
@@ -54,6 +56,41 @@ module _ (map : List ℕ) (size : ℕ) (acc : Access) where
               clear-any 4 a (lookField map size acc ((a + 4) % 16777216) (n - 4) (At r k)) r k
               (sym (look-pieces n 4 (omega arith) h map size acc a (At r k)) ∙ f (At r k)) (lookOf map size acc a)
               ∙ e
+
+-- two stretches are enough: where the first look-up ends before such a field, a page ends, and of the next page the second reaches the rest
+module _ (map : List ℕ) (size : ℕ) (acc : Access) (a n r k : ℕ) (e : lookOf map size acc a ≡ At r k) (f : Clear map size acc a n) (h : k < n) where
+  behind-clear : Clear map size acc ((a + k) % 16777216) (n - k)
+  behind-clear = clear-on map size acc a n f r k e k (reach-some map size acc a r k e) (omega arith) (omega arith)
+
+  pub behind-found : (c : Cause) (p : ℕ) → lookOf map size acc ((a + k) % 16777216) ≡ Refused c p → ⊥
+  behind-found c p g = clear-first map size acc ((a + k) % 16777216) (n - k) behind-clear (omega arith) c p g
+
+  module _ (q j : ℕ) (g : lookOf map size acc ((a + k) % 16777216) ≡ At q j) where
+    straight : (a + k) % 16777216 ≡ a + k
+    straight = omega (arith, reach-below map size acc a r k e)
+
+    edge : 4096 ≤ a % 4096 + k
+    edge =
+        by-order (a % 4096 + k) 4096
+        (λ l. absurd
+        (let m : k + 1 ≤ k =
+        reach-largest map size acc a r k e (k + 1)
+        (record {
+          page =
+              λ d o. by-order d k (λ i. reach-page map size acc a r k e d i) (λ i. unfold pageOf in omega arith);
+          right =
+              λ d o. by-order d k
+              (λ i. ap verdictOf (reach-behind map size acc a r k e d i))
+              (λ i. ap (λ (x : ℕ). verdictOf (lookOf map size acc x)) (let z : a + d ≡ (a + k) % 16777216 = omega (arith, straight) in z) ∙ ap verdictOf g);
+        }) in omega arith))
+        (λ l. l)
+
+    pub two-enough : n - k ≤ 2048 → n - k ≤ j
+    unfolding lookOne
+    two-enough l =
+        half-reached map size acc ((a + k) % 16777216) (n - k) q j
+        (omega (arith, straight, edge, reach-fits map size acc a r k e))
+        (behind-clear (lookOf map size acc ((a + k) % 16777216)) ∙ g)
 
 -- a map in which the look-ups are the same
 pub clear-alike : (map map′ : List ℕ) (size : ℕ) (acc : Access) → ((b : ℕ) → lookOf map′ size acc b ≡ lookOf map size acc b) → (a n : ℕ)

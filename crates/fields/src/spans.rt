@@ -15,13 +15,14 @@ ghost use Rattle.pages.specs.declared.Look.the-variants.{At};
 ghost use Rattle.pages.specs.Look.{lookOf};
 ghost use Rattle.pages.specs.Framed.{framedOf};
 ghost use Rattle.fields.specs.Spans.{spotOf, restOf, Spans, Paged};
-ghost use Rattle.fields.specs.Direct.{noteField};
+ghost use Rattle.fields.specs.Direct.{noteField, Clear};
 ghost use Rattle.fields.specs.Both.{lookBoth, movedBy, orderOf, notedBy};
 
-// Where a field of n bytes lies whose first byte was found: in one stretch, or in two; a length of 0 where it does not lie so.
+// Where a field of n bytes lies whose first byte was found: in one stretch, or in two; a length of 0 where it does not lie so, which of a field
+// of at most 2,048 bytes says that a byte of it is refused.
 fn span_of(map: &[u16], size: usize, access: Access, a: u32, n: u32, at: usize, reach: u32) -> Span
     requires { ⌜ lookOf (now map) size access a ≡ At at reach ⌝ }
-    ensures { λ r. ⌜ (0 < r .len → Spans (now (map .entry)) size access a n r) ⌝ }
+    ensures { λ r. ⌜ (0 < r .len → Spans (now (map .entry)) size access a n r) × (0 < n → n ≤ 2048 → Clear (now (map .entry)) size access a n → 0 < r .len) ⌝ }
 {
     if n <= reach {
         return Span {

@@ -41,13 +41,13 @@ returns-2 : tie.Need-returns-2 Inv-loop μ-loop
 returns-2 c = (c .before .before .compare-field2 .ensures)
 
 note-span-requires : tie.Need-note-span-requires Inv-loop μ-loop
-note-span-requires c κs = let l : 0 < (c .before .before .before .before .before .before .before .span-of .result .len) = omega (arith, c .before .before .before .if1 .left) in spans-paged _ _ _ _ _ _ (c .before .before .before .before .before .before .before .before .before .before .before .pre .0) l (c .before .before .before .before .before .before .before .span-of .ensures l)
+note-span-requires c κs = let l : 0 < (c .before .before .before .before .before .before .before .span-of .result .len) = omega (arith, c .before .before .before .if1 .left) in spans-paged _ _ _ _ _ _ (c .before .before .before .before .before .before .before .before .before .before .before .pre .0) l (c .before .before .before .before .before .before .before .span-of .ensures .0 l)
 
 note-span-requires-2 : tie.Need-note-span-requires-2 Inv-loop μ-loop
-note-span-requires-2 c κs = let l : 0 < (c .before .before .before .before .before .before .before .before .before .span-of2 .result .len) = omega (arith, c .before .before .before .before .before .if2 .left) in spans-paged _ _ _ _ _ _ (c .before .before .before .before .before .before .before .before .before .before .before .before .before .before .before .pre .0) l (c .before .before .before .before .before .before .before .before .before .span-of2 .ensures l)
+note-span-requires-2 c κs = let l : 0 < (c .before .before .before .before .before .before .before .before .before .span-of2 .result .len) = omega (arith, c .before .before .before .before .before .if2 .left) in spans-paged _ _ _ _ _ _ (c .before .before .before .before .before .before .before .before .before .before .before .before .before .before .before .pre .0) l (c .before .before .before .before .before .before .before .before .before .span-of2 .ensures .0 l)
 
 loop-holds : tie.Need-loop-holds Inv-loop μ-loop
-loop-holds c = (begun-compare _ _ _ _ _ _ _ _ _ _ (c .before .before .before .before .before .before .before .before .before .before .before .before .before .before .span-of .ensures (omega (arith, c .before .before .before .before .before .before .before .before .before .before .if1 .left))) (c .before .before .before .before .before .before .before .before .before .before .before .before .span-of2 .ensures (omega (arith, c .before .before .before .before .before .before .before .before .if2 .left))), omega arith, noted-spans _ _ _ _ _ _ _ (c .before .before .before .before .before .before .note-span .ensures) (c .before .before .note-span2 .ensures) _ _ _ _ (c .before .before .before .before .before .before .before .before .before .before .before .before .before .before .span-of .ensures (omega (arith, c .before .before .before .before .before .before .before .before .before .before .if1 .left))), noted-spans _ _ _ _ _ _ _ (c .before .before .before .before .before .before .note-span .ensures) (c .before .before .note-span2 .ensures) _ _ _ _ (c .before .before .before .before .before .before .before .before .before .before .before .before .span-of2 .ensures (omega (arith, c .before .before .before .before .before .before .before .before .if2 .left))))
+loop-holds c = (begun-compare _ _ _ _ _ _ _ _ _ _ (c .before .before .before .before .before .before .before .before .before .before .before .before .before .before .span-of .ensures .0 (omega (arith, c .before .before .before .before .before .before .before .before .before .before .if1 .left))) (c .before .before .before .before .before .before .before .before .before .before .before .before .span-of2 .ensures .0 (omega (arith, c .before .before .before .before .before .before .before .before .if2 .left))), omega arith, noted-spans _ _ _ _ _ _ _ (c .before .before .before .before .before .before .note-span .ensures) (c .before .before .note-span2 .ensures) _ _ _ _ (c .before .before .before .before .before .before .before .before .before .before .before .before .before .before .span-of .ensures .0 (omega (arith, c .before .before .before .before .before .before .before .before .before .before .if1 .left))), noted-spans _ _ _ _ _ _ _ (c .before .before .before .before .before .before .note-span .ensures) (c .before .before .note-span2 .ensures) _ _ _ _ (c .before .before .before .before .before .before .before .before .before .before .before .before .span-of2 .ensures .0 (omega (arith, c .before .before .before .before .before .before .before .before .if2 .left))))
 
 rest-of-requires : tie.Need-rest-of-requires Inv-loop μ-loop
 rest-of-requires c κs = (c .before .loop .inv .1)
@@ -68,7 +68,7 @@ same-length-3 : tie.Need-same-length-3 Inv-loop μ-loop
 same-length-3 c = (c .before .before .before .before .before .before .before .before .before .before .before .note-span2 .kept .0) ∙ (c .before .before .before .before .before .before .before .before .before .before .before .before .before .before .before .note-span .kept .0)
 
 returns-3 : tie.Need-returns-3 Inv-loop μ-loop
-returns-3 c = let e = step-is _ _ _ _ _ _ _ (c .before .before .before .before .fewer-of .ensures) (c .before .before .before .before .before .before .rest-of .ensures) (c .before .before .before .before .before .rest-of2 .ensures) in order-yes _ _ _ _ _ _ _ (spans-both _ _ _ _ _ _ _ _ (c .before .before .before .before .before .before .before .before .before .before .before .before .before .before .before .before .before .before .before .before .before .before .before .span-of .ensures (omega (arith, c .before .before .before .before .before .before .before .before .before .before .before .before .before .before .before .before .before .before .before .if1 .left))) (c .before .before .before .before .before .before .before .before .before .before .before .before .before .before .before .before .before .before .before .before .before .span-of2 .ensures (omega (arith, c .before .before .before .before .before .before .before .before .before .before .before .before .before .before .before .before .before .if2 .left)))) _ _ (c .before .before .before .before .before .before .before .before .before .before .before .before .before .before .before .before .before .before .before .before .before .before .before .before .before .before .before .pre .1) _ _ (c .before .before .before .before .before .before .before .before .before .before .before .before .before .before .before .note-span .ensures) (c .before .before .before .before .before .before .before .before .before .before .before .note-span2 .ensures) _ (compared-unlike _ _ _ _ _ _ _ (c .before .before .before .before .before .before .before .before .loop .inv .2) (c .before .before .before .before .before .before .before .before .loop .inv .3) _ _ (c .before .before .before .before .before .before .before .loop-test .taken) e _ (compare-is _ _ _ _ _ _ _ (c .before .compare-flat .ensures) (c .before .before .before .spot-of .ensures) (c .before .before .spot-of2 .ensures)) (c .if3 .taken) ∙ sym (c .before .before .before .before .before .before .before .before .loop .inv .0))
+returns-3 c = let e = step-is _ _ _ _ _ _ _ (c .before .before .before .before .fewer-of .ensures) (c .before .before .before .before .before .before .rest-of .ensures) (c .before .before .before .before .before .rest-of2 .ensures) in order-yes _ _ _ _ _ _ _ (spans-both _ _ _ _ _ _ _ _ (c .before .before .before .before .before .before .before .before .before .before .before .before .before .before .before .before .before .before .before .before .before .before .before .span-of .ensures .0 (omega (arith, c .before .before .before .before .before .before .before .before .before .before .before .before .before .before .before .before .before .before .before .if1 .left))) (c .before .before .before .before .before .before .before .before .before .before .before .before .before .before .before .before .before .before .before .before .before .span-of2 .ensures .0 (omega (arith, c .before .before .before .before .before .before .before .before .before .before .before .before .before .before .before .before .before .if2 .left)))) _ _ (c .before .before .before .before .before .before .before .before .before .before .before .before .before .before .before .before .before .before .before .before .before .before .before .before .before .before .before .pre .1) _ _ (c .before .before .before .before .before .before .before .before .before .before .before .before .before .before .before .note-span .ensures) (c .before .before .before .before .before .before .before .before .before .before .before .note-span2 .ensures) _ (compared-unlike _ _ _ _ _ _ _ (c .before .before .before .before .before .before .before .before .loop .inv .2) (c .before .before .before .before .before .before .before .before .loop .inv .3) _ _ (c .before .before .before .before .before .before .before .loop-test .taken) e _ (compare-is _ _ _ _ _ _ _ (c .before .compare-flat .ensures) (c .before .before .before .spot-of .ensures) (c .before .before .spot-of2 .ensures)) (c .if3 .taken) ∙ sym (c .before .before .before .before .before .before .before .before .loop .inv .0))
 
 add-i : tie.Need-add-i Inv-loop μ-loop
 add-i c = let e = step-is _ _ _ _ _ _ _ (c .before .before .before .before .fewer-of .ensures) (c .before .before .before .before .before .before .rest-of .ensures) (c .before .before .before .before .before .rest-of2 .ensures) in let l = piece-left _ _ _ _ _ _ _ _ (c .before .before .before .before .before .before .before .before .loop .inv .2) (c .before .before .before .before .before .before .before .before .loop .inv .3) _ _ (c .before .before .before .before .before .before .before .loop-test .taken) e in record { fits = omega (arith, l, c .before .before .before .before .before .before .before .before .before .before .before .before .before .before .before .before .before .before .before .before .before .before .before .before .before .before .before .fits .n .fits) }
@@ -83,7 +83,7 @@ same-length-4 : tie.Need-same-length-4 Inv-loop μ-loop
 same-length-4 c = (c .before .before .before .before .note-span2 .kept .0) ∙ (c .before .before .before .before .before .before .before .before .note-span .kept .0)
 
 returns-4 : tie.Need-returns-4 Inv-loop μ-loop
-returns-4 c = order-yes _ _ _ _ _ _ _ (spans-both _ _ _ _ _ _ _ _ (c .before .before .before .before .before .before .before .before .before .before .before .before .before .before .before .before .span-of .ensures (omega (arith, c .before .before .before .before .before .before .before .before .before .before .before .before .if1 .left))) (c .before .before .before .before .before .before .before .before .before .before .before .before .before .before .span-of2 .ensures (omega (arith, c .before .before .before .before .before .before .before .before .before .before .if2 .left)))) _ _ (c .before .before .before .before .before .before .before .before .before .before .before .before .before .before .before .before .before .before .before .before .pre .1) _ _ (c .before .before .before .before .before .before .before .before .note-span .ensures) (c .before .before .before .before .note-span2 .ensures) _ (all-alike _ _ _ _ _ _ _ _ (c .before .loop .inv .0) (c .loop-test .left))
+returns-4 c = order-yes _ _ _ _ _ _ _ (spans-both _ _ _ _ _ _ _ _ (c .before .before .before .before .before .before .before .before .before .before .before .before .before .before .before .before .span-of .ensures .0 (omega (arith, c .before .before .before .before .before .before .before .before .before .before .before .before .if1 .left))) (c .before .before .before .before .before .before .before .before .before .before .before .before .before .before .span-of2 .ensures .0 (omega (arith, c .before .before .before .before .before .before .before .before .before .before .if2 .left)))) _ _ (c .before .before .before .before .before .before .before .before .before .before .before .before .before .before .before .before .before .before .before .before .pre .1) _ _ (c .before .before .before .before .before .before .before .before .note-span .ensures) (c .before .before .before .before .note-span2 .ensures) _ (all-alike _ _ _ _ _ _ _ _ (c .before .loop .inv .0) (c .loop-test .left))
 
 pub compare-over-spec : {M : Type 1} → statement M
 compare-over-spec =

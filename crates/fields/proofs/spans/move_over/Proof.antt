@@ -42,13 +42,13 @@ returns-2 : tie.Need-returns-2 Inv-loop μ-loop
 returns-2 c = (c .before .before .before .before .move-field2 .ensures)
 
 note-span-requires : tie.Need-note-span-requires Inv-loop μ-loop
-note-span-requires c κs = let l : 0 < (c .before .before .before .before .before .before .before .span-of .result .len) = omega (arith, c .before .before .before .if1 .left) in spans-paged _ _ _ _ _ _ (c .before .before .before .before .before .before .before .before .before .before .before .pre .0) l (c .before .before .before .before .before .before .before .span-of .ensures l)
+note-span-requires c κs = let l : 0 < (c .before .before .before .before .before .before .before .span-of .result .len) = omega (arith, c .before .before .before .if1 .left) in spans-paged _ _ _ _ _ _ (c .before .before .before .before .before .before .before .before .before .before .before .pre .0) l (c .before .before .before .before .before .before .before .span-of .ensures .0 l)
 
 note-span-requires-2 : tie.Need-note-span-requires-2 Inv-loop μ-loop
-note-span-requires-2 c κs = let l : 0 < (c .before .before .before .before .before .before .before .before .before .span-of2 .result .len) = omega (arith, c .before .before .before .before .before .if2 .left) in spans-paged _ _ _ _ _ _ (c .before .before .before .before .before .before .before .before .before .before .before .before .before .before .before .pre .0) l (c .before .before .before .before .before .before .before .before .before .span-of2 .ensures l)
+note-span-requires-2 c κs = let l : 0 < (c .before .before .before .before .before .before .before .before .before .span-of2 .result .len) = omega (arith, c .before .before .before .before .before .if2 .left) in spans-paged _ _ _ _ _ _ (c .before .before .before .before .before .before .before .before .before .before .before .before .before .before .before .pre .0) l (c .before .before .before .before .before .before .before .before .before .span-of2 .ensures .0 l)
 
 loop-holds : tie.Need-loop-holds Inv-loop μ-loop
-loop-holds c = (begun _ _ _ _ _ _ _ _ _ _ (c .before .before .before .before .before .before .before .before .before .before .before .before .before .before .span-of .ensures (omega (arith, c .before .before .before .before .before .before .before .before .before .before .if1 .left))) (c .before .before .before .before .before .before .before .before .before .before .before .before .span-of2 .ensures (omega (arith, c .before .before .before .before .before .before .before .before .if2 .left))), refl, refl, omega arith, noted-spans _ _ _ _ _ _ _ (c .before .before .before .before .before .before .note-span .ensures) (c .before .before .note-span2 .ensures) _ _ _ _ (c .before .before .before .before .before .before .before .before .before .before .before .before .before .before .span-of .ensures (omega (arith, c .before .before .before .before .before .before .before .before .before .before .if1 .left))), noted-spans _ _ _ _ _ _ _ (c .before .before .before .before .before .before .note-span .ensures) (c .before .before .note-span2 .ensures) _ _ _ _ (c .before .before .before .before .before .before .before .before .before .before .before .before .span-of2 .ensures (omega (arith, c .before .before .before .before .before .before .before .before .if2 .left))))
+loop-holds c = (begun _ _ _ _ _ _ _ _ _ _ (c .before .before .before .before .before .before .before .before .before .before .before .before .before .before .span-of .ensures .0 (omega (arith, c .before .before .before .before .before .before .before .before .before .before .if1 .left))) (c .before .before .before .before .before .before .before .before .before .before .before .before .span-of2 .ensures .0 (omega (arith, c .before .before .before .before .before .before .before .before .if2 .left))), refl, refl, omega arith, noted-spans _ _ _ _ _ _ _ (c .before .before .before .before .before .before .note-span .ensures) (c .before .before .note-span2 .ensures) _ _ _ _ (c .before .before .before .before .before .before .before .before .before .before .before .before .before .before .span-of .ensures .0 (omega (arith, c .before .before .before .before .before .before .before .before .before .before .if1 .left))), noted-spans _ _ _ _ _ _ _ (c .before .before .before .before .before .before .note-span .ensures) (c .before .before .note-span2 .ensures) _ _ _ _ (c .before .before .before .before .before .before .before .before .before .before .before .before .span-of2 .ensures .0 (omega (arith, c .before .before .before .before .before .before .before .before .if2 .left))))
 
 rest-of-requires : tie.Need-rest-of-requires Inv-loop μ-loop
 rest-of-requires c κs = (c .before .loop .inv .3)
@@ -81,7 +81,7 @@ same-length-6 : tie.Need-same-length-6 Inv-loop μ-loop
 same-length-6 c = (c .before .loop .inv .2) ∙ (c .before .before .before .before .note-span2 .kept .0) ∙ (c .before .before .before .before .before .before .before .before .note-span .kept .0)
 
 returns-3 : tie.Need-returns-3 Inv-loop μ-loop
-returns-3 c = (sym (c .before .before .before .before .before .before .before .before .before .before .before .before .before .before .before .before .before .before .before .before .pre .1) ∙ spans-both _ _ _ _ _ _ _ _ (c .before .before .before .before .before .before .before .before .before .before .before .before .before .before .before .before .span-of .ensures (omega (arith, c .before .before .before .before .before .before .before .before .before .before .before .before .if1 .left))) (c .before .before .before .before .before .before .before .before .before .before .before .before .before .before .span-of2 .ensures (omega (arith, c .before .before .before .before .before .before .before .before .before .before .if2 .left))), all-moved _ _ _ _ _ _ _ _ _ _ _ _ (c .before .loop .inv .0) (c .loop-test .left) (c .before .before .before .before .before .before .before .before .note-span .ensures) (c .before .before .before .before .note-span2 .ensures))
+returns-3 c = (sym (c .before .before .before .before .before .before .before .before .before .before .before .before .before .before .before .before .before .before .before .before .pre .1) ∙ spans-both _ _ _ _ _ _ _ _ (c .before .before .before .before .before .before .before .before .before .before .before .before .before .before .before .before .span-of .ensures .0 (omega (arith, c .before .before .before .before .before .before .before .before .before .before .before .before .if1 .left))) (c .before .before .before .before .before .before .before .before .before .before .before .before .before .before .span-of2 .ensures .0 (omega (arith, c .before .before .before .before .before .before .before .before .before .before .if2 .left))), all-moved _ _ _ _ _ _ _ _ _ _ _ _ (c .before .loop .inv .0) (c .loop-test .left) (c .before .before .before .before .before .before .before .before .note-span .ensures) (c .before .before .before .before .note-span2 .ensures))
 
 pub move-over-spec : {M : Type 1} → statement M
 move-over-spec =
