@@ -1,9 +1,8 @@
 -- Both fields of a move or a compare, looked up one after the other, and what that leaves.
-use Prim.Native.Nat.{ℕ, zero, suc, _+_, _<_}
+use Prim.Native.Nat.{ℕ, zero, suc, _<_}
 use native.Mathlib.Omega.{arith}
 use mathlib.Core.Path.{_≡_, refl, sym, _∙_, ap}
 use mathlib.Core.List.{List}
-use lib.ListN.{length}
 use Rattle.pages.specs.declared.Access.{Access}
 use Rattle.pages.specs.declared.Access.the-variants.{Load}
 use Rattle.pages.specs.declared.Cause.{Cause}
@@ -14,7 +13,7 @@ use Rattle.pages.specs.Look.{lookOf}
 use Rattle.pages.specs.Framed.{framedOf}
 use Rattle.fields.specs.declared.Order.the-variants.{Code, Barred}
 use Rattle.fields.specs.Direct.{orElse, lookField, lookFields, lookOne, noteField, moveField, compareField}
-use Rattle.fields.specs.Both.{lookBoth, noteBoth, movedBy, orderOf, notedBy}
+use Rattle.fields.specs.Both.{lookBoth, movedBy, orderOf, notedBy}
 use Rattle.fields.proofs.Found.{whole-first}
 use Rattle.fields.proofs.Cleared.{found-clear}
 

@@ -232,10 +232,10 @@ noted-spans map map′ map″ size a b n e f acc c m s p =
     (λ d. ap (λ (x : List ℕ). lookOf x size acc d) f ∙ note-blind map′ b n size acc d ∙ ap (λ (x : List ℕ). lookOf x size acc d) e ∙ note-blind map a n size acc d)
     c m s p
 
-pub at-first : (a : ℕ) → a < 16777216 → a ≡ (a + 0) % 16777216
+at-first : (a : ℕ) → a < 16777216 → a ≡ (a + 0) % 16777216
 at-first a h = omega arith
 
-pub all-left : (n : ℕ) → n ≡ n - 0
+all-left : (n : ℕ) → n ≡ n - 0
 all-left n = omega arith
 
 pub step-is : (s t : Span) (n i step x y : ℕ) → step ≡ fewer x y → x ≡ restOf s n i → y ≡ restOf t n i → step ≡ fewer (restOf s n i) (restOf t n i)
@@ -253,13 +253,9 @@ pub all-moved : (mem map mem₀ map₀ map₁ map₂ : List ℕ) (a b n i x y : 
 all-moved mem map mem₀ map₀ map₁ map₂ a b n i x y e h f g =
     sym (ap (λ (m : List ℕ). moveField (framedOf mem₀ m) a b n) (sym (g ∙ rw f)) ∙ e ∙ move-none (n - i) (omega arith) (framedOf mem map) x y)
 
-pub begun : (mem map map₀ : List ℕ) (size a b n : ℕ) (s t : Span) (acc : Access) → Spans map₀ size acc a n s → Spans map₀ size Load b n t
-    → moveField (framedOf mem map) a b n ≡ moveField (framedOf mem map) ((a + 0) % 16777216) ((b + 0) % 16777216) (n - 0)
-begun mem map map₀ size a b n s t acc p q = rw (← at-first a (p .low), ← at-first b (q .low), ← all-left n)
-
-pub begun-compare : (mem map map₀ : List ℕ) (size a b n : ℕ) (s t : Span) (acc : Access) → Spans map₀ size acc a n s → Spans map₀ size Load b n t
-    → compareField (framedOf mem map) a b n ≡ compareField (framedOf mem map) ((a + 0) % 16777216) ((b + 0) % 16777216) (n - 0)
-begun-compare mem map map₀ size a b n s t acc p q = rw (← at-first a (p .low), ← at-first b (q .low), ← all-left n)
+pub begun : {A : Type 0} (f : ℕ → ℕ → ℕ → A) (map : List ℕ) (size a b n : ℕ) (s t : Span) (acc : Access) → Spans map size acc a n s
+    → Spans map size Load b n t → f a b n ≡ f ((a + 0) % 16777216) ((b + 0) % 16777216) (n - 0)
+begun f map size a b n s t acc p q = rw (← at-first a (p .low), ← at-first b (q .low), ← all-left n)
 
 pub mark-is : (map map′ : List ℕ) (x x′ : ℕ) → map′ ≡ writtenAt map x → x ≡ x′ → map′ ≡ writtenAt map x′
 mark-is map map′ x x′ e f = e ∙ rw f

@@ -1,6 +1,6 @@
 -- How a move and a compare end is what their programs come to; and the contract of an executor has one answer, so that two ways that meet it
 -- are the same.
-use Prim.Native.Nat.{ℕ, _+_, _<_, _≤_}
+use Prim.Native.Nat.{ℕ, _<_, _≤_}
 use native.Mathlib.Omega.{arith}
 use mathlib.Core.Path.{_≡_, refl, sym, _∙_, ap}
 use mathlib.Core.List.{List}

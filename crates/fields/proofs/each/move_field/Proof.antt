@@ -1,4 +1,4 @@
-use mathlib.Core.Path.{_≡_, refl, sym, _∙_}
+use mathlib.Core.Path.{_∙_}
 use Rattle.fields.proofs.BothLooked.{both-first, both-second, both-there, moved-no, moved-yes}
 use borrow.Author.Needs.{needs}
 use Rattle.fields.proofs.each.move_field.Statement.{statement}

@@ -6,7 +6,7 @@ use Rattle.pages.specs.declared.Access.the-variants.{Load, Store}
 use Rattle.pages.specs.Framed.{framedOf}
 use Rattle.fields.specs.Direct.{moveField}
 use Rattle.fields.specs.Spans.{Spans}
-use Rattle.fields.proofs.Spanned.{spans-both, spans-paged, noted-spans, at-first, all-left, step-is, move-is, all-moved, piece-some, piece-left, first-room, second-room, spot-low, moved-on, still-spans, begun, mark-is}
+use Rattle.fields.proofs.Spanned.{spans-both, spans-paged, noted-spans, step-is, move-is, all-moved, piece-some, piece-left, first-room, second-room, spot-low, moved-on, still-spans, begun, mark-is}
 use borrow.Author.Needs.{needs}
 use Rattle.fields.proofs.spans.move_over.Statement.{statement}
 use Rattle.fields.proofs.spans.move_over.Tie as tie
@@ -48,7 +48,7 @@ note-span-requires-2 : tie.Need-note-span-requires-2 Inv-loop μ-loop
 note-span-requires-2 c κs = let l : 0 < (c .before .before .before .before .before .before .before .before .before .span-of2 .result .len) = omega (arith, c .before .before .before .before .before .if2 .left) in spans-paged _ _ _ _ _ _ (c .before .before .before .before .before .before .before .before .before .before .before .before .before .before .before .pre .0) l (c .before .before .before .before .before .before .before .before .before .span-of2 .ensures .0 l)
 
 loop-holds : tie.Need-loop-holds Inv-loop μ-loop
-loop-holds c = (begun _ _ _ _ _ _ _ _ _ _ (c .before .before .before .before .before .before .before .before .before .before .before .before .before .before .span-of .ensures .0 (omega (arith, c .before .before .before .before .before .before .before .before .before .before .if1 .left))) (c .before .before .before .before .before .before .before .before .before .before .before .before .span-of2 .ensures .0 (omega (arith, c .before .before .before .before .before .before .before .before .if2 .left))), refl, refl, omega arith, noted-spans _ _ _ _ _ _ _ (c .before .before .before .before .before .before .note-span .ensures) (c .before .before .note-span2 .ensures) _ _ _ _ (c .before .before .before .before .before .before .before .before .before .before .before .before .before .before .span-of .ensures .0 (omega (arith, c .before .before .before .before .before .before .before .before .before .before .if1 .left))), noted-spans _ _ _ _ _ _ _ (c .before .before .before .before .before .before .note-span .ensures) (c .before .before .note-span2 .ensures) _ _ _ _ (c .before .before .before .before .before .before .before .before .before .before .before .before .span-of2 .ensures .0 (omega (arith, c .before .before .before .before .before .before .before .before .if2 .left))))
+loop-holds c = (begun (moveField _) _ _ _ _ _ _ _ _ (c .before .before .before .before .before .before .before .before .before .before .before .before .before .before .span-of .ensures .0 (omega (arith, c .before .before .before .before .before .before .before .before .before .before .if1 .left))) (c .before .before .before .before .before .before .before .before .before .before .before .before .span-of2 .ensures .0 (omega (arith, c .before .before .before .before .before .before .before .before .if2 .left))), refl, refl, omega arith, noted-spans _ _ _ _ _ _ _ (c .before .before .before .before .before .before .note-span .ensures) (c .before .before .note-span2 .ensures) _ _ _ _ (c .before .before .before .before .before .before .before .before .before .before .before .before .before .before .span-of .ensures .0 (omega (arith, c .before .before .before .before .before .before .before .before .before .before .if1 .left))), noted-spans _ _ _ _ _ _ _ (c .before .before .before .before .before .before .note-span .ensures) (c .before .before .note-span2 .ensures) _ _ _ _ (c .before .before .before .before .before .before .before .before .before .before .before .before .span-of2 .ensures .0 (omega (arith, c .before .before .before .before .before .before .before .before .if2 .left))))
 
 rest-of-requires : tie.Need-rest-of-requires Inv-loop μ-loop
 rest-of-requires c κs = (c .before .loop .inv .3)

@@ -1,4 +1,3 @@
-use mathlib.Core.Path.{_∙_}
 use Rattle.fields.proofs.Spanned.{noted-one, noted-two}
 use borrow.Author.Needs.{needs}
 use Rattle.fields.proofs.spans.note_span.Statement.{statement}

@@ -1,5 +1,5 @@
 use native.Mathlib.Omega.{arith}
-use mathlib.Core.Path.{_≡_, refl, sym, _∙_, ap}
+use mathlib.Core.Path.{sym, _∙_, ap}
 use Rattle.pages.specs.Look.{lookOf}
 use Rattle.pages.proofs.ReachLaws.{reach-some}
 use Rattle.fields.proofs.Cleared.{behind-found, two-enough}

@@ -1,6 +1,6 @@
 use native.Mathlib.Omega.{arith}
 use native.Mathlib.Numerals.{add-one}
-use mathlib.Core.Path.{refl, sym, _∙_}
+use mathlib.Core.Path.{refl}
 use Rattle.machine.specs.Ss.{ss}
 use Rattle.rs_ss.proofs.Ways.{compare-ended}
 use borrow.Author.Needs.{needs}

@@ -1,4 +1,3 @@
-use mathlib.Core.Path.{sym, _∙_, ap}
 use borrow.Author.Needs.{needs}
 use Rattle.rs_ss.proofs.ss.compared.Statement.{statement}
 use Rattle.rs_ss.proofs.ss.compared.Tie as tie

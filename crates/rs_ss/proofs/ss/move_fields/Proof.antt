@@ -1,6 +1,6 @@
 use native.Mathlib.Omega.{arith}
 use native.Mathlib.Numerals.{add-one}
-use mathlib.Core.Path.{refl, sym, _∙_}
+use mathlib.Core.Path.{sym, _∙_}
 use Rattle.pages.specs.declared.Access.the-variants.{Store}
 use Rattle.pages.proofs.ReachLaws.{reach-inside}
 use Rattle.fields.proofs.Pieces.{room}

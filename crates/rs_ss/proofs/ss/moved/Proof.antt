@@ -1,6 +1,3 @@
-use mathlib.Core.Path.{sym, _∙_, ap}
-use Rattle.pages.specs.declared.Look.{Look}
-use Rattle.rs_ss.specs.Ended.{endsMove}
 use borrow.Author.Needs.{needs}
 use Rattle.rs_ss.proofs.ss.moved.Statement.{statement}
 use Rattle.rs_ss.proofs.ss.moved.Tie as tie
