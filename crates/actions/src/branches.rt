@@ -8,7 +8,7 @@ ghost use Rattle.machine.specs.Branches.{chosen, link, lessOne, going, branch};
 ghost use Rattle.actions.specs.Answered.{cpuOf};
 
 // Whether the mask has the bit for this code.
-fn is_chosen(mask: u8, code: u32) -> bool
+pub fn is_chosen(mask: u8, code: u32) -> bool
     ensures { λ r. ⌜ r ≡ chosen mask code ⌝ }
 {
     match code {
@@ -20,7 +20,7 @@ fn is_chosen(mask: u8, code: u32) -> bool
 }
 
 // Length code, condition code, mask, next address.
-fn link_word(regs: &[u32], c: Now, len: u32) -> u32
+pub fn link_word(regs: &[u32], c: Now, len: u32) -> u32
     ensures { λ r. ⌜ r ≡ link (cpuOf (now (regs .entry)) c) len ⌝ }
 {
     let next = registers::ahead_of(regs, c, len);
@@ -28,7 +28,7 @@ fn link_word(regs: &[u32], c: Now, len: u32) -> u32
     ((high + c.mask as u64 * 16777216 + next as u64) % 4294967296) as u32
 }
 
-fn less_one(v: u32) -> u32
+pub fn less_one(v: u32) -> u32
     ensures { λ r. ⌜ r ≡ lessOne v ⌝ }
 {
     ((v as u64 + 4294967295) % 4294967296) as u32

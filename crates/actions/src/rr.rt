@@ -14,7 +14,7 @@ ghost use Rattle.code.specs.Formats.{rrOf};
 ghost use Rattle.machine.specs.Rr.{rr};
 ghost use Rattle.actions.specs.Answered.{cpuOf, answersTo};
 
-fn combine(regs: &mut [u32], c: Now, op: Alu, h1: u16) -> Now
+pub fn combine(regs: &mut [u32], c: Now, op: Alu, h1: u16) -> Now
     ensures { λ n. ⌜ done (cpuOf (now (regs .exit)) n) ≡ rr (RrAction.Registers op) (rrOf h1) (cpuOf (now (regs .entry)) c) ⌝ }
 {
     let f = decode::split_rr(h1);
@@ -39,7 +39,7 @@ fn branch(regs: &mut [u32], c: Now, kind: Branch, h1: u16) -> Now
 }
 
 // MR DR.
-fn pair(regs: &mut [u32], c: Now, op: PairOp, h1: u16) -> Out
+pub fn pair(regs: &mut [u32], c: Now, op: PairOp, h1: u16) -> Out
     ensures { λ o. ⌜ answersTo o (now (regs .entry)) (now (regs .exit)) (rr (RrAction.PairAndRegister op) (rrOf h1) (cpuOf (now (regs .entry)) c)) ⌝ }
 {
     let f = decode::split_rr(h1);

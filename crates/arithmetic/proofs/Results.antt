@@ -1,46 +1,51 @@
 -- What each function of signed.rt has in hand where it returns, and what it is to show.
 use mathlib.Core.Path.{_≡_, sym, ap, _∙_}
-use mathlib.Core.Bool.{Bool, true, false}
-use Prim.Native.Nat.{ℕ, _+_, _-_, _%_, _≤_, _<_}
+use mathlib.Core.Bool.{true}
+use Prim.Native.Nat.{ℕ, _+_, _-_, _/_, _%_, _≤_, _<_}
 use native.Mathlib.Omega.{arith}
 use lib.Dec.{ltb}
-use lib.IntN.{negℤ, subℕ, natAbs, _+ℤ_, _-ℤ_}
+use lib.IntN.{pos, negℤ, subℕ, natAbs, _+ℤ_, _-ℤ_}
 use lib.Signed.{ltZ}
 use borrow.Author.Tests.{lt-ltb, le-ltb}
 use Rattle.words.specs.declared.Res.{Res}
-use Rattle.words.specs.Whole.{wordTop, signed, overflows, magnitude}
+use Rattle.words.specs.Whole.{wordTop, signed, magnitude}
 use Rattle.words.specs.Codes.{signCode, compareSigned, compareBits}
-use Rattle.words.specs.Combine.{signedResult}
+use Rattle.words.specs.Combine.{resultOf, signedResult}
+use Rattle.words.proofs.Choice.{by-order}
 use Rattle.words.proofs.Differences.{sub-low, sub-high, same-difference, neg-sub, add-sub, lt-sub}
 use Rattle.words.proofs.SignCodes.{code-zero, code-above}
 use Rattle.arithmetic.proofs.Lifted.{lifted-kept, lifted-over, positive-is}
 
+-- t / 2147483648 tells the sign and whether the number fits
 module _ (t : ℕ) where
-  pub over-low : t < 2147483648 → true ≡ overflows wordTop (subℕ t 4294967296)
-  over-low h = rw (lifted-over t, lt-ltb t 2147483648 h)
+  fits : (k : ℕ) → 2147483648 ≤ t → t < 6442450944 → k ≡ signCode (subℕ t 4294967296)
+      → resultOf (t % 4294967296) k ≡ signedResult (subℕ t 4294967296)
+  unfolding signedResult
+  fits k h l e = rw (lifted-over t, le-ltb t 2147483648 h, le-ltb 6442450943 t (omega arith), lifted-kept t, e)
 
-  pub over-rest : 2147483648 ≤ t → ltb 6442450943 t ≡ overflows wordTop (subℕ t 4294967296)
-  over-rest h = rw (lifted-over t, le-ltb t 2147483648 h)
-
-  pub lifted-negative : t < 4294967296 → 1 ≡ signCode (subℕ t 4294967296)
+  pub result-below : t / 2147483648 ≡ 1 → resultOf (t % 4294967296) 1 ≡ signedResult (subℕ t 4294967296)
   unfolding signCode
-  lifted-negative h = rw (sub-low t 4294967296 h)
+  result-below q = fits 1 (omega arith) (omega arith) (rw (sub-low t 4294967296 (omega arith)))
 
-  pub lifted-positive : 4294967296 ≤ t → 4294967296 < t → 2 ≡ signCode (subℕ t 4294967296)
-  lifted-positive h k = rw (sub-high t 4294967296 h) (code-above (t - 4294967296) (omega arith))
+  module _ (q : t / 2147483648 ≡ 2) where
+    not-below : (k : ℕ) → k ≡ signCode (pos (t % 4294967296)) → resultOf (t % 4294967296) k ≡ signedResult (subℕ t 4294967296)
+    not-below k e =
+        let m : t % 4294967296 ≡ t - 4294967296 = omega arith in
+        fits k (omega arith) (omega arith) (rw (sub-high t 4294967296 (omega arith), ← m) e)
 
-  pub lifted-zero : 4294967296 ≤ t → t ≤ 4294967296 → 0 ≡ signCode (subℕ t 4294967296)
-  lifted-zero h k = rw (sub-high t 4294967296 h) (code-zero (t - 4294967296) (omega arith))
+    pub result-zero : t % 4294967296 ≡ 0 → resultOf (t % 4294967296) 0 ≡ signedResult (subℕ t 4294967296)
+    result-zero z = not-below 0 (code-zero (t % 4294967296) z)
 
-  module _ (o : Bool) (e : o ≡ overflows wordTop (subℕ t 4294967296)) where
-    pub result-over : o ≡ true → record { value = t % 4294967296; code = 3; over = true } ≡ signedResult (subℕ t 4294967296)
-    unfolding signedResult
-    result-over h = rw (sym e ∙ h, lifted-kept t)
+    pub result-above : (t % 4294967296 ≡ 0 → ⊥) → resultOf (t % 4294967296) 2 ≡ signedResult (subℕ t 4294967296)
+    result-above n = not-below 2 (code-above (t % 4294967296) n)
 
-    pub result-fits : (k : ℕ) → o ≡ false → k ≡ signCode (subℕ t 4294967296)
-        → record { value = t % 4294967296; code = k; over = false } ≡ signedResult (subℕ t 4294967296)
-    unfolding signedResult
-    result-fits k h s = rw (sym e ∙ h, lifted-kept t, s)
+  pub result-over : (t / 2147483648 ≡ 1 → ⊥) → (t / 2147483648 ≡ 2 → ⊥)
+      → record { value = t % 4294967296; code = 3; over = true } ≡ signedResult (subℕ t 4294967296)
+  unfolding signedResult
+  result-over m n =
+      by-order t 2147483648
+      (λ h. rw (lifted-over t, lt-ltb t 2147483648 h, lifted-kept t))
+      (λ h. rw (lifted-over t, le-ltb t 2147483648 h, lt-ltb 6442450943 t (omega arith), lifted-kept t))
 
 -- x is the word lifted
 module _ (b x : ℕ) (r : Res) (e : signed wordTop b ≡ subℕ x 2147483648) where

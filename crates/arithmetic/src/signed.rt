@@ -3,8 +3,8 @@
 ghost use mathlib.Core.Path.{_≡_};
 ghost use Prim.Native.Nat.{_+_, _%_, _≤_};
 ghost use lib.IntN.{subℕ, natAbs, negℤ, _+ℤ_, _-ℤ_};
-ghost use Rattle.words.specs.Whole.{wordTop, signed, overflows, magnitude};
-ghost use Rattle.words.specs.Codes.{signCode, compareSigned};
+ghost use Rattle.words.specs.Whole.{wordTop, signed, magnitude};
+ghost use Rattle.words.specs.Codes.{compareSigned};
 ghost use Rattle.words.specs.Combine.{signedResult};
 use words::Res;
 
@@ -19,39 +19,30 @@ pub fn lift(a: u32) -> u32
     }
 }
 
-pub fn overflow(t: u64) -> bool
-    ensures { λ r. ⌜ r ≡ overflows wordTop (subℕ t 4294967296) ⌝ }
-{
-    if t < 2147483648 {
-        return true;
-    }
-    6442450943 < t
-}
-
-pub fn sign_code(t: u64) -> u32
-    ensures { λ r. ⌜ r ≡ signCode (subℕ t 4294967296) ⌝ }
-{
-    if t < 4294967296 {
-        return 1;
-    }
-    if 4294967296 < t { 2 } else { 0 }
-}
-
+// t in units of 2^31: 1 is below zero, 2 is zero or above, anything else does not fit.
 pub fn result(t: u64) -> Res
     ensures { λ r. ⌜ r ≡ signedResult (subℕ t 4294967296) ⌝ }
 {
     let value = (t % 4294967296) as u32;
-    if overflow(t) {
+    let q = t / 2147483648;
+    if q == 1 {
         return Res {
             value: value,
-            code: 3,
-            over: true,
+            code: 1,
+            over: false,
+        };
+    }
+    if q == 2 {
+        return Res {
+            value: value,
+            code: if value == 0 { 0 } else { 2 },
+            over: false,
         };
     }
     Res {
         value: value,
-        code: sign_code(t),
-        over: false,
+        code: 3,
+        over: true,
     }
 }
 

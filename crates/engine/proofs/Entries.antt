@@ -4,50 +4,41 @@ use mathlib.Core.Path.{_≡_, refl, sym, _∙_, ap}
 use mathlib.Core.Bool.{Bool, true, false}
 use mathlib.Core.List.{List, []}
 use borrow.Author.Tests.{le-leb, lt-leb}
-use lib.Dec.{eqb, leb}
-use Rattle.words.specs.Pick.{pick, both}
-use Rattle.pages.specs.Framed.{Framed, framedOf}
+use Rattle.pages.specs.Framed.{framedOf}
 use Rattle.machine.specs.declared.Reply.{Reply}
-use Rattle.machine.specs.Prog.{Answer, finished, refused, interp}
-use Rattle.machine.specs.Run.{Result, one, afterStep, run}
-use Rattle.machine.specs.Store.{framed}
-use Rattle.machine.specs.Cpu.{Cpu}
+use Rattle.machine.specs.Run.{run}
 use Rattle.machine.specs.Step.{step}
-use Rattle.machine.specs.Machine.{Outcome, given, outcome, proper, turnedAway, outcomeOf, opsFor, stepOutcome, runOutcome}
+use Rattle.machine.specs.Machine.{given, outcome, proper, turnedAway, outcomeOf, opsFor, stepOutcome, runOutcome}
 use Rattle.actions.specs.declared.Now.{Now}
-use Rattle.actions.specs.Answered.{cpuOf}
+use Rattle.actions.specs.declared.Out.{Out}
+use Rattle.actions.specs.declared.Out.the-variants.{Done, Stop}
+use Rattle.actions.specs.Answered.{cpuOf, told, doing}
 use Rattle.engine.specs.declared.Ran.{Ran}
 use Rattle.engine.specs.Entry.{stepReply, ranReply, ranAs}
 
--- a run of one, told as a step
-abbrev asStep : Result Cpu Framed → Result Cpu Framed
-asStep r =
-    record { stop = pick (eqb (r .count) 1) 0 (r .stop); place = r .place; count = r .count; cpu = r .cpu; held = r .held }
-
-one-run : (c : Cpu) (x : Answer Cpu Framed)
-    → asStep (afterStep c x (λ c′ s′. record { stop = 7; place = 0; count = 0; cpu = c′; held = s′ })) ≡ one c x
-one-run c (finished d s) = refl
-one-run c (refused n a s) = refl
+-- a step's answer, told, is its reply and what the lists hold
+step-told : (c : Now) (out : Out) (mem map regs : List ℕ) → outcome (stepReply c out) mem map regs ≡ outcomeOf (told out regs c (framedOf mem map))
+unfolding told
+step-told c (Done n) mem map regs = refl
+step-told c (Stop k a) mem map regs = refl
 
 module _ (mem map regs : List ℕ) (pc code mask : ℕ) where
-  -- a step is a run of one
-  pub step-is : (r q : Reply) (mem′ map′ regs′ : List ℕ) → outcome r mem′ map′ regs′ ≡ runOutcome 1 (given mem map regs pc code mask) → q ≡ stepReply r
+  pub step-fine : (b : Bool) (q : Reply) (out : Out) (mem′ map′ regs′ : List ℕ) → b ≡ proper (given mem map regs pc code mask) → b ≡ true
+      → told out regs′ (record { pc = pc; code = code; mask = mask }) (framedOf mem′ map′)
+      ≡ doing step regs (record { pc = pc; code = code; mask = mask }) (framedOf mem map)
+      → q ≡ stepReply (record { pc = pc; code = code; mask = mask }) out
       → outcome q mem′ map′ regs′ ≡ stepOutcome (given mem map regs pc code mask)
-  unfolding stepOutcome runOutcome run
-  step-is r q mem′ map′ regs′ t eq =
-      ap (λ (x : Reply). outcome x mem′ map′ regs′) eq ∙ ap asOne t ∙ go (proper (given mem map regs pc code mask))
-    where
-      asOne : Outcome → Outcome
-      asOne o = outcome (stepReply (o .reply)) (o .mem) (o .map) (o .regs)
+  unfolding stepOutcome
+  step-fine b q out mem′ map′ regs′ eb p t eq =
+      ap (λ (x : Reply). outcome x mem′ map′ regs′) eq
+      ∙ step-told (record { pc = pc; code = code; mask = mask }) out mem′ map′ regs′
+      ∙ ap outcomeOf t
+      ∙ rw (sym eb ∙ p)
 
-      x : Answer Cpu Framed
-      x = interp framed (step (cpuOf regs (record { pc = pc; code = code; mask = mask }))) (framedOf mem map) (framedOf mem map)
-
-      go : (b : Bool)
-          → asOne (pick (both b (leb 1 65535)) (outcomeOf (afterStep (cpuOf regs (record { pc = pc; code = code; mask = mask })) x (λ c′ s′. record { stop = 7; place = 0; count = 0; cpu = c′; held = s′ }))) (turnedAway (given mem map regs pc code mask)))
-          ≡ pick b (outcomeOf (one (cpuOf regs (record { pc = pc; code = code; mask = mask })) x)) (turnedAway (given mem map regs pc code mask))
-      go true = ap outcomeOf (one-run (cpuOf regs (record { pc = pc; code = code; mask = mask })) x)
-      go false = refl
+  pub step-away : (b : Bool) (r : Reply) → b ≡ proper (given mem map regs pc code mask) → b ≡ false
+      → r ≡ turnedAway (given [] [] [] pc code mask) .reply → outcome r mem map regs ≡ stepOutcome (given mem map regs pc code mask)
+  unfolding stepOutcome
+  step-away b r eb p er = rw (sym eb ∙ p) (ap (λ (x : Reply). outcome x mem map regs) er)
 
   module _ (budget : ℕ) where
     pub run-fine : (b : Bool) (q : Reply) (ran : Ran) (mem′ map′ regs′ : List ℕ) → b ≡ proper (given mem map regs pc code mask) → b ≡ true → budget ≤ 65535

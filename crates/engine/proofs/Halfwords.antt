@@ -1,5 +1,5 @@
 -- A halfword of the instruction, by its look-up: refused, or fetched, and then the rest from where its marks are set.
-use Prim.Native.Nat.{ℕ, _+_, _≤_}
+use Prim.Native.Nat.{ℕ, _+_, _/_, _≤_}
 use native.Mathlib.Omega.{arith}
 use native.Mathlib.Nat.{add-zero}
 use mathlib.Core.Path.{_≡_, refl, sym, _∙_, ap}
@@ -18,6 +18,12 @@ use Rattle.pages.specs.Framed.{Framed, framedOf, accessedAt, noted}
 use Rattle.pages.proofs.LookLaws.{refused-place, any-load}
 use Rattle.pages.proofs.ReachLaws.{reach-behind, reach-inside, reach-next, reach-page}
 use Rattle.pages.proofs.Marks.{look-quiet, accessed-quiet, accessed-again}
+use Rattle.code.specs.declared.Action.{Action}
+use Rattle.code.specs.declared.Action.the-variants.{Rr, Rx, Rs, Si, Ss}
+use Rattle.code.specs.declared.Found.{Found}
+use Rattle.code.specs.declared.Found.the-variants.{Known, Unknown}
+use Rattle.code.specs.Table.{actionOf}
+use Rattle.code.specs.Formats.{opOf, lengthOf}
 use Rattle.machine.specs.Prog.{Prog, done, Answer, finished, refused, interp}
 use Rattle.machine.specs.Fields.{halfword}
 use Rattle.machine.specs.Store.{framed}
@@ -147,3 +153,18 @@ module _ (mem map : List ℕ) (a r k : ℕ) (e : lookOf map (length mem) Fetch a
 
   pub there-read : flat mem r 2 0 ≡ readField (framedOf mem map) a 2 0
   there-read = reach-read mem map a r k (any-load map (length mem) Fetch a r k e) 2 h 0
+
+-- how many halfwords are fetched, by what the first one names
+pub length-small : (x : Action) (n : ℕ) → n ≡ lengthOf x → n ≤ 6
+length-small (Rr x) n e = omega arith
+length-small (Rx x) n e = omega arith
+length-small (Rs x) n e = omega arith
+length-small (Si x) n e = omega arith
+length-small (Ss x) n e = omega arith
+
+module _ (h1 : ℕ) (found : Found) (e : found ≡ actionOf (opOf h1)) where
+  pub halves-one : found ≡ Unknown → 1 ≡ halvesOf h1
+  halves-one u = rw (← e, u)
+
+  pub halves-known : (x : Action) (n : ℕ) → found ≡ Known x → n ≡ lengthOf x → n / 2 ≡ halvesOf h1
+  halves-known x n k l = rw (← e, k, l)

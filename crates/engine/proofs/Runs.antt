@@ -16,19 +16,11 @@ use Rattle.actions.specs.declared.Now.{Now}
 use Rattle.actions.specs.declared.Out.{Out}
 use Rattle.actions.specs.declared.Out.the-variants.{Done, Stop}
 use Rattle.actions.specs.Answered.{cpuOf, told, doing}
-use Rattle.engine.specs.Entry.{ranAs}
+use Rattle.engine.specs.Entry.{ranAs, adds}
 
--- n steps more
-abbrev pub adds : ℕ → Result Cpu Framed → Result Cpu Framed
-adds n r = record { stop = r .stop; place = r .place; count = n + r .count; cpu = r .cpu; held = r .held }
-
+-- steps counted: none, one, and those of a run that goes on
 adds-none : (r : Result Cpu Framed) → r ≡ adds 0 r
 adds-none r = λ i. record { stop = r .stop; place = r .place; count = sym (zero-add (r .count)) i; cpu = r .cpu; held = r .held }
-
-pub run-start : (budget : ℕ) (c : Cpu) (s : Framed) → run opsFor step budget c s ≡ adds 0 (run opsFor step (budget - 0) c s)
-run-start budget c s =
-    let z : budget ≡ budget - 0 = omega arith in
-    adds-none (run opsFor step budget c s) ∙ ap (λ (b : ℕ). adds 0 (run opsFor step b c s)) z
 
 adds-more : (n : ℕ) (r : Result Cpu Framed) → adds n (oneMore r) ≡ adds (n + 1) r
 adds-more n r =
@@ -36,6 +28,24 @@ adds-more n r =
   where
     moved : n + suc (r .count) ≡ n + 1 + r .count
     moved = omega arith
+
+adds-both : (m n : ℕ) (r : Result Cpu Framed) → adds m (adds n r) ≡ adds (m + n) r
+adds-both m n r =
+    λ i. record { stop = r .stop; place = r .place; count = moved i; cpu = r .cpu; held = r .held }
+  where
+    moved : m + (n + r .count) ≡ m + n + r .count
+    moved = omega arith
+
+pub run-start : (budget : ℕ) (c : Cpu) (s : Framed) → run opsFor step budget c s ≡ adds (budget - budget) (run opsFor step budget c s)
+run-start budget c s =
+    let z : 0 ≡ budget - budget = omega arith in
+    adds-none (run opsFor step budget c s) ∙ ap (λ (n : ℕ). adds n (run opsFor step budget c s)) z
+
+pub run-further : (budget left less : ℕ) → left ≤ budget → less ≤ left → (x r s : Result Cpu Framed) → x ≡ adds (budget - left) r → r ≡ adds (left - less) s
+    → x ≡ adds (budget - less) s
+run-further budget left less h l x r s e k =
+    let z : budget - left + (left - less) ≡ budget - less = omega arith in
+    e ∙ ap (adds (budget - left)) k ∙ adds-both (budget - left) (left - less) s ∙ ap (λ (n : ℕ). adds n s) z
 
 -- what a step's answer says of the definitions' answer
 pub was-done : (c : Cpu) (x : Answer Cpu Framed) (c′ : Cpu) (s′ : Framed)
@@ -52,16 +62,16 @@ was-refused c (finished d t) go r z e =
     absurd (let y : _≡_ {A = ℕ} 0 1 = sym z ∙ ap (λ (q : Result Cpu Framed). q .count) e in omega arith)
 was-refused c (refused n a t) go r z e = e
 
-module _ (regs mem map : List ℕ) (at : Now) (budget count : ℕ) (h : count < budget) where
-  pub run-on : (out : Out) (next : Now) (regs′ mem′ map′ : List ℕ)
+-- a turn of a run of which so many steps are left
+module _ (regs mem map : List ℕ) (at : Now) (budget left : ℕ) (h : 0 < left) where
+  pub run-on : left ≤ budget → (out : Out) (next : Now) (regs′ mem′ map′ : List ℕ)
       → told out regs′ at (framedOf mem′ map′) ≡ doing step regs at (framedOf mem map) → out ≡ Done next
-      → adds count (run opsFor step (budget - count) (cpuOf regs at) (framedOf mem map))
-      ≡ adds (count + 1) (run opsFor step (budget - (count + 1)) (cpuOf regs′ next) (framedOf mem′ map′))
+      → adds (budget - left) (run opsFor step left (cpuOf regs at) (framedOf mem map))
+      ≡ adds (budget - (left - 1)) (run opsFor step (left - 1) (cpuOf regs′ next) (framedOf mem′ map′))
   unfolding run told
-  run-on out next regs′ mem′ map′ t o =
-      let l : 0 < budget - count = omega arith in
-      let fewer : budget - count - 1 ≡ budget - (count + 1) = omega arith in
-      go (budget - count) l ∙ ap (λ (b : ℕ). adds (count + 1) (run opsFor step b (cpuOf regs′ next) (framedOf mem′ map′))) fewer
+  run-on m out next regs′ mem′ map′ t o =
+      let more : budget - left + 1 ≡ budget - (left - 1) = omega arith in
+      go left h ∙ ap (λ (n : ℕ). adds n (run opsFor step (left - 1) (cpuOf regs′ next) (framedOf mem′ map′))) more
     where
       x : interp framed (step (cpuOf regs at)) (framedOf mem map) (framedOf mem map) ≡ finished (cpuOf regs′ next) (framedOf mem′ map′)
       x =
@@ -69,20 +79,20 @@ module _ (regs mem map : List ℕ) (at : Now) (budget count : ℕ) (h : count < 
           (ap (λ (y : Out). told y regs′ at (framedOf mem′ map′)) (sym o) ∙ t)
 
       go : (l : ℕ) → 0 < l
-          → adds count (run opsFor step l (cpuOf regs at) (framedOf mem map))
-          ≡ adds (count + 1) (run opsFor step (l - 1) (cpuOf regs′ next) (framedOf mem′ map′))
+          → adds (budget - left) (run opsFor step l (cpuOf regs at) (framedOf mem map))
+          ≡ adds (budget - left + 1) (run opsFor step (l - 1) (cpuOf regs′ next) (framedOf mem′ map′))
       go zero k = absurd (omega arith)
       go (suc b) k =
-          ap (λ (y : Answer Cpu Framed). adds count (afterStep (cpuOf regs at) y (λ c′ s′. run opsFor step b c′ s′))) x
-          ∙ adds-more count (run opsFor step b (cpuOf regs′ next) (framedOf mem′ map′))
-          ∙ ap (λ (b′ : ℕ). adds (count + 1) (run opsFor step b′ (cpuOf regs′ next) (framedOf mem′ map′))) (sym (pred-suc b))
+          ap (λ (y : Answer Cpu Framed). adds (budget - left) (afterStep (cpuOf regs at) y (λ c′ s′. run opsFor step b c′ s′))) x
+          ∙ adds-more (budget - left) (run opsFor step b (cpuOf regs′ next) (framedOf mem′ map′))
+          ∙ ap (λ (b′ : ℕ). adds (budget - left + 1) (run opsFor step b′ (cpuOf regs′ next) (framedOf mem′ map′))) (sym (pred-suc b))
 
   pub run-stop : (out : Out) (number place : ℕ) (regs′ mem′ map′ : List ℕ)
       → told out regs′ at (framedOf mem′ map′) ≡ doing step regs at (framedOf mem map) → out ≡ Stop number place
-      → ranAs (record { number = number; place = place; count = count; now = at }) regs′ (framedOf mem′ map′)
-      ≡ adds count (run opsFor step (budget - count) (cpuOf regs at) (framedOf mem map))
+      → ranAs (record { number = number; place = place; count = budget - left; now = at }) regs′ (framedOf mem′ map′)
+      ≡ adds (budget - left) (run opsFor step left (cpuOf regs at) (framedOf mem map))
   unfolding run told
-  run-stop out number place regs′ mem′ map′ t o = let l : 0 < budget - count = omega arith in go (budget - count) l
+  run-stop out number place regs′ mem′ map′ t o = go left h
     where
       r : Result Cpu Framed
       r = record { stop = number; place = place; count = 0; cpu = cpuOf regs′ at; held = framedOf mem′ map′ }
@@ -90,24 +100,24 @@ module _ (regs mem map : List ℕ) (at : Now) (budget count : ℕ) (h : count < 
       x : r ≡ one (cpuOf regs at) (interp framed (step (cpuOf regs at)) (framedOf mem map) (framedOf mem map))
       x = ap (λ (y : Out). told y regs′ at (framedOf mem′ map′)) (sym o) ∙ t
 
-      plus : ranAs (record { number = number; place = place; count = count; now = at }) regs′ (framedOf mem′ map′) ≡ adds count r
+      plus : ranAs (record { number = number; place = place; count = budget - left; now = at }) regs′ (framedOf mem′ map′) ≡ adds (budget - left) r
       plus =
-          λ i. record { stop = number; place = place; count = sym (add-zero count) i; cpu = cpuOf regs′ at; held = framedOf mem′ map′ }
+          λ i. record { stop = number; place = place; count = sym (add-zero (budget - left)) i; cpu = cpuOf regs′ at; held = framedOf mem′ map′ }
 
       go : (l : ℕ) → 0 < l
-          → ranAs (record { number = number; place = place; count = count; now = at }) regs′ (framedOf mem′ map′)
-          ≡ adds count (run opsFor step l (cpuOf regs at) (framedOf mem map))
+          → ranAs (record { number = number; place = place; count = budget - left; now = at }) regs′ (framedOf mem′ map′)
+          ≡ adds (budget - left) (run opsFor step l (cpuOf regs at) (framedOf mem map))
       go zero k = absurd (omega arith)
       go (suc b) k =
           plus
-          ∙ ap (adds count)
+          ∙ ap (adds (budget - left))
           (was-refused (cpuOf regs at) (interp framed (step (cpuOf regs at)) (framedOf mem map) (framedOf mem map)) (λ c′ s′. run opsFor step b c′ s′) r refl x)
 
-pub run-spent : (regs mem map : List ℕ) (at : Now) (budget count : ℕ) → budget ≤ count
-    → ranAs (record { number = 7; place = 0; count = count; now = at }) regs (framedOf mem map)
-    ≡ adds count (run opsFor step (budget - count) (cpuOf regs at) (framedOf mem map))
+pub run-spent : (regs mem map : List ℕ) (at : Now) (budget left : ℕ) → left ≤ 0
+    → ranAs (record { number = 7; place = 0; count = budget - left; now = at }) regs (framedOf mem map)
+    ≡ adds (budget - left) (run opsFor step left (cpuOf regs at) (framedOf mem map))
 unfolding run
-run-spent regs mem map at budget count h =
-    let z : budget - count ≡ 0 = omega arith in
+run-spent regs mem map at budget left h =
+    let z : left ≡ 0 = omega arith in
     rw z
-    (λ i. record { stop = 7; place = 0; count = sym (add-zero count) i; cpu = cpuOf regs at; held = framedOf mem map })
+    (λ i. record { stop = 7; place = 0; count = sym (add-zero (budget - 0)) i; cpu = cpuOf regs at; held = framedOf mem map })

@@ -31,9 +31,10 @@ use Rattle.fields.specs.Direct.{lookOne, readField}
 use Rattle.actions.specs.declared.Now.{Now}
 use Rattle.actions.specs.declared.Out.the-variants.{Stop}
 use Rattle.actions.specs.Answered.{cpuOf, told, doing}
+use Rattle.actions.specs.Whole.{actWhole, whole}
 use Rattle.engine.specs.declared.Fetched.{Fetched}
 use Rattle.engine.specs.declared.Fetched.the-variants as T
-use Rattle.engine.specs.Entry.{past, halves, halvesOf, halfMarks, lookWanted, wantedMarks, wantedHalf, furtherText, text, fetching, fetched, stopOf, actWhole, whole}
+use Rattle.engine.specs.Entry.{past, halves, halvesOf, halfMarks, lookWanted, wantedMarks, wantedHalf, furtherText, text, fetching, fetched, stopOf}
 use Rattle.engine.proofs.Halfwords.{fromThere, half-comes, wanted-comes, half-more}
 
 -- what an instruction comes to, by its text

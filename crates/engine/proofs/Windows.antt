@@ -1,25 +1,26 @@
 -- The window: what holds of it every step keeps, and in it the text needs no look-up and the page no mark.
-use Prim.Native.Nat.{ℕ, _+_, _-_, _*_, _/_, _%_, _<_, _≤_}
+use Prim.Native.Nat.{ℕ, _+_, _-_, _*_, _<_, _≤_}
 use native.Mathlib.Omega.{arith}
 use native.Mathlib.Decide.{ℕ-discrete, decLt}
 use mathlib.Core.Path.{_≡_, refl, sym, _∙_, ap, subst}
 use mathlib.Core.Bool.{Bool, true, false}
 use mathlib.Core.List.{List}
-use borrow.Author.Tests.{eqb-true, leb-true, ltb-true, lt-ltb, le-leb}
+use borrow.Author.Tests.{eqb-true, leb-true, ltb-true}
 use lib.Dec.{eqb, leb, ltb}
 use lib.ListN.{length, getD, set, List·getD-eq-default}
 use lib.Seq.{getD-set-same, getD-set-other, set-out}
-use Rattle.words.specs.Pick.{both}
 use Rattle.pages.specs.declared.Access.the-variants.{Fetch, Store}
 use Rattle.pages.specs.declared.Look.{Look}
 use Rattle.pages.specs.declared.Look.the-variants.{At, Refused}
 use Rattle.pages.specs.Word.{bitG, wordOf, pageOf, accessed, written}
 use Rattle.pages.specs.Tests.{Verdict, fine, bad}
-use Rattle.pages.specs.Look.{lookOf, lookWith, verdictOf}
+use Rattle.pages.specs.Look.{lookOf, verdictOf}
 use Rattle.pages.specs.Framed.{Framed, framedOf, accessedAt, writtenAt, lookIn, noted, readByte, writeByte, writeAt}
 use Rattle.words.proofs.Tests.{left-of, right-of}
-use Rattle.pages.proofs.ReachLaws.{reach-behind, reach-inside, reach-page}
-use Rattle.pages.proofs.Marks.{changed, accessed-quiet, written-quiet, word-quiet, accessed-old}
+use Rattle.pages.proofs.LookLaws.{found-small}
+use Rattle.pages.proofs.ReachLaws.{reach-behind, reach-fits, reach-page}
+use Rattle.pages.proofs.Marks.{changed, accessed-quiet, written-quiet, word-quiet}
+use Rattle.lookup.proofs.HasMarks.{seen-marked}
 use Rattle.machine.specs.Prog.{Prog, done, fail, look, get, put, finished, keeps, after, interp}
 use Rattle.machine.specs.Store.{framed}
 use Rattle.machine.specs.Step.{step}
@@ -27,7 +28,7 @@ use Rattle.actions.specs.declared.Now.{Now}
 use Rattle.actions.specs.declared.Out.{Out}
 use Rattle.actions.specs.declared.Out.the-variants.{Done}
 use Rattle.actions.specs.Answered.{cpuOf, told, doing}
-use Rattle.engine.specs.declared.Window.{Window}
+use Rattle.quick.specs.declared.Window.{Window}
 use Rattle.engine.specs.Entry.{Held, Ready, inside}
 use Rattle.engine.proofs.Runs.{was-done}
 
@@ -90,13 +91,7 @@ held-written : (first len b size w : ℕ) → Held first len b w size → Held f
 held-written first len b size w h =
     record { far = h .far; found = word-quiet written written-quiet size Fetch first w ∙ h .found; room = h .room; seen = written-seen w ∙ h .seen }
 
--- a page that has its mark
-seen-marked : (map : List ℕ) (pc page : ℕ) → pageOf pc ≡ page → bitG (wordOf map page) ≡ 1 → map ≡ accessedAt map pc
-unfolding accessedAt wordOf bitG pageOf
-seen-marked map pc page e g =
-    let k : getD map (pc / 4096) 0 / 16384 % 2 ≡ 1 = ap (λ (x : ℕ). getD map x 0 / 16384 % 2) e ∙ g in
-    accessed-old map (pc / 4096) (getD map (pc / 4096) 0) refl (λ z. (let y : _≡_ {A = ℕ} 0 1 = sym z ∙ k in omega arith))
-
+-- after a step
 module _ (w : Window) (mem map : List ℕ) (ready : Ready w map (length mem)) (regs : List ℕ) (c : Now) where
   pub ready-after : (out : Out) (n : Now) (regs′ mem′ map′ : List ℕ)
       → told out regs′ c (framedOf mem′ map′) ≡ doing step regs c (framedOf mem map) → out ≡ Done n → length mem′ ≡ length mem → Ready w map′ (length mem′)
@@ -118,7 +113,7 @@ module _ (w : Window) (mem map : List ℕ) (ready : Ready w map (length mem)) (p
   pub not-before : w .first ≤ pc
   not-before = leb-true (w .first) pc (left-of (leb (w .first) pc) (ltb (pc - w .first) (w .len)) (sym eb ∙ t))
 
-  not-past : pc - w .first < w .len
+  pub not-past : pc - w .first < w .len
   not-past = ltb-true (pc - w .first) (w .len) (right-of (leb (w .first) pc) (ltb (pc - w .first) (w .len)) (sym eb ∙ t))
 
   open-now : 0 < w .len
@@ -146,8 +141,10 @@ module _ (w : Window) (mem map : List ℕ) (ready : Ready w map (length mem)) (p
   pub window-six : 6 ≤ held .far - (pc - w .first)
   window-six = omega (arith, not-past, held .room)
 
-  pub window-inside : w .base + (pc - w .first) < length mem
-  window-inside = omega (arith, reached, reach-inside map (length mem) Fetch (w .first) (w .base) (held .far) first-found)
+  pub window-small : w .base + w .len ≤ 270336
+  window-small =
+      omega
+      (arith, held .room, found-small map (length mem) Fetch (w .first) (At (w .base) (held .far)) (w .base) (held .far) (sym first-found) refl, reach-fits map (length mem) Fetch (w .first) (w .base) (held .far) first-found)
 
   -- the page has its mark
   pub window-marked : map ≡ accessedAt map pc

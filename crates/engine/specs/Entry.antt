@@ -3,9 +3,8 @@
 use Prim.Native.Nat.{ℕ, _+_, _-_, _/_, _%_, _<_, _≤_}
 use mathlib.Core.Path.{_≡_}
 use mathlib.Core.List.{List, [], _∷_}
-use mathlib.Core.Bool.{Bool, true}
-use lib.Dec.{eqb, leb, ltb}
-use lib.ListN.{length}
+use mathlib.Core.Bool.{Bool, true, false}
+use lib.Dec.{leb, ltb}
 use Rattle.words.specs.Pick.{pick, both}
 use Rattle.words.specs.Said.{Said, says}
 use Rattle.pages.specs.Word.{bitG, next, pageOf, wordOf}
@@ -14,29 +13,29 @@ use Rattle.pages.specs.declared.Look.{Look}
 use Rattle.pages.specs.declared.Look.the-variants.{At, Refused}
 use Rattle.pages.specs.Tests.{numberOf}
 use Rattle.pages.specs.Look.{lookOf, lookWith}
-use Rattle.pages.specs.Framed.{Framed, accessedAt}
-use Rattle.code.specs.declared.Action.the-variants.{Rr, Rx, Rs, Si, Ss}
+use Rattle.pages.specs.Framed.{Framed, framedOf, accessedAt}
 use Rattle.code.specs.declared.Found.{Found}
 use Rattle.code.specs.declared.Found.the-variants.{Known, Unknown}
 use Rattle.code.specs.Table.{actionOf}
-use Rattle.code.specs.Formats.{opOf, lengthOf, rrOf, rxOf, rsOf, siOf, ssOf}
+use Rattle.code.specs.Formats.{opOf, lengthOf}
 use Rattle.fields.specs.Direct.{lookOne}
 use Rattle.machine.specs.declared.Reply.{Reply}
-use Rattle.machine.specs.Prog.{Prog, done, fail, Answer, finished, refused, interp}
+use Rattle.machine.specs.Prog.{Prog, done, Answer, finished, refused, interp}
 use Rattle.machine.specs.Fields.{gets, halfword}
 use Rattle.machine.specs.Store.{framed}
-use Rattle.machine.specs.Run.{Result}
+use Rattle.machine.specs.Run.{Result, run}
 use Rattle.machine.specs.Cpu.{Cpu}
-use Rattle.machine.specs.Rr.{rr}
-use Rattle.machine.specs.Rx.{rx}
-use Rattle.machine.specs.Rs.{rs}
-use Rattle.machine.specs.Si.{si}
-use Rattle.machine.specs.Ss.{ss}
+use Rattle.machine.specs.Step.{step}
+use Rattle.machine.specs.Machine.{opsFor}
+use Rattle.actions.specs.declared.Now.{Now}
+use Rattle.actions.specs.declared.Out.{Out}
+use Rattle.actions.specs.declared.Out.the-variants.{Done, Stop}
 use Rattle.actions.specs.Answered.{cpuOf}
 use Rattle.engine.specs.declared.Fetched.{Fetched}
 use Rattle.engine.specs.declared.Fetched.the-variants as T
 use Rattle.engine.specs.declared.Ran.{Ran}
-use Rattle.engine.specs.declared.Window.{Window}
+use Rattle.engine.specs.declared.Spun.{Spun}
+use Rattle.quick.specs.declared.Window.{Window}
 
 -- the enum's cases in document 01's terms: the three halfwords, or a refusal's number and place
 abbrev pub fetchedSays : Fetched → Said (List ℕ)
@@ -97,34 +96,28 @@ abbrev pub stopOf : Look → Fetched
 stopOf (Refused c a) = T.Stop (numberOf c) a
 stopOf (At r k) = T.Stop 0 0
 
--- the action on halfwords that are in hand
-abbrev pub actWhole : Found → ℕ → ℕ → ℕ → Cpu → Prog Cpu
-actWhole Unknown h1 h2 h3 c = fail 5 (c .pc)
-actWhole (Known (Rr x)) h1 h2 h3 c = rr x (rrOf h1) c
-actWhole (Known (Rx x)) h1 h2 h3 c = rx x (rxOf h1 h2) c
-actWhole (Known (Rs x)) h1 h2 h3 c = rs x (rsOf h1 h2) c
-actWhole (Known (Si x)) h1 h2 h3 c = si x (siOf h1 h2) c
-actWhole (Known (Ss x)) h1 h2 h3 c = ss x (ssOf h1 h2 h3) c
-
-unfoldable pub whole : ℕ → ℕ → ℕ → Cpu → Prog Cpu
-whole h1 h2 h3 c = actWhole (actionOf (opOf h1)) h1 h2 h3 c
-
 -- a run's answer and what the lists hold, as the definitions' result
 abbrev pub ranAs : Ran → List ℕ → Framed → Result Cpu Framed
 ranAs r regs s =
     record { stop = r .number; place = r .place; count = r .count; cpu = cpuOf regs (r .now); held = s }
 
--- the reply to a single step, made as a run of one: completed where it counts one
-abbrev pub stepReply : Reply → Reply
-stepReply r =
-    record {
-      number = pick (eqb (r .count) 1) 0 (r .number);
-      place = r .place;
-      count = r .count;
-      pc = r .pc;
-      code = r .code;
-      mask = r .mask;
-    }
+-- n steps more
+abbrev pub adds : ℕ → Result Cpu Framed → Result Cpu Framed
+adds n r = record { stop = r .stop; place = r .place; count = n + r .count; cpu = r .cpu; held = r .held }
+
+-- how far the quick way went from c: the steps done make up the run with those left; where it is not stuck it has done one, and where it is
+-- one is left
+pub record Went (c : Now) (budget : ℕ) (regs mem map regs′ mem′ map′ : List ℕ) (r : Spun) : Type 0 where
+  pub so-far : run opsFor step budget (cpuOf regs c) (framedOf mem map)
+      ≡ adds (budget - r .left) (run opsFor step (r .left) (cpuOf regs′ (r .now)) (framedOf mem′ map′))
+  pub most : r .left ≤ budget
+  pub goes : r .stuck ≡ false → 0 < budget → r .left < budget
+  pub stays : r .stuck ≡ true → 0 < budget → 0 < r .left
+
+-- the reply to a single step from the scalars c
+abbrev pub stepReply : Now → Out → Reply
+stepReply c (Done n) = record { number = 0; place = 0; count = 1; pc = n .pc; code = n .code; mask = n .mask }
+stepReply c (Stop k a) = record { number = k; place = a; count = 0; pc = c .pc; code = c .code; mask = c .mask }
 
 abbrev pub ranReply : Ran → Reply
 ranReply r =

@@ -1,5 +1,7 @@
 // Number 6 at the door, and replies in numbers.
 use crate::Ran;
+use actions::Now;
+use actions::Out;
 use machine::Reply;
 ghost use mathlib.Core.Path.{_≡_};
 ghost use mathlib.Core.List.{[]};
@@ -49,17 +51,27 @@ pub fn away(pc: u32, code: u32, mask: u32) -> Reply
     }
 }
 
-// A step's reply is that of a run of one, but 0 where it counts one.
-pub fn step_reply(r: Reply) -> Reply
-    ensures { λ q. ⌜ q ≡ stepReply r ⌝ }
+// A step's reply: completed, or refused with the state as it was.
+pub fn step_reply(c: Now, out: Out) -> Reply
+    ensures { λ q. ⌜ q ≡ stepReply c out ⌝ }
 {
-    Reply {
-        number: if r.count == 1 { 0 } else { r.number },
-        place: r.place,
-        count: r.count,
-        pc: r.pc,
-        code: r.code,
-        mask: r.mask,
+    match out {
+        Out::Done(n) => Reply {
+            number: 0,
+            place: 0,
+            count: 1,
+            pc: n.pc,
+            code: n.code,
+            mask: n.mask,
+        },
+        Out::Stop(number, place) => Reply {
+            number: number,
+            place: place,
+            count: 0,
+            pc: c.pc,
+            code: c.code,
+            mask: c.mask,
+        },
     }
 }
 

@@ -9,26 +9,24 @@ use pages::Look;
 ghost use mathlib.Core.Path.{_≡_};
 ghost use Rattle.pages.specs.Framed.{framedOf};
 ghost use Rattle.actions.specs.Answered.{told, doing};
+ghost use Rattle.actions.specs.Whole.{whole};
 ghost use Prim.Native.Nat.{_≤_};
 ghost use lib.ListN.{length};
 ghost use Rattle.fields.specs.Direct.{lookOne, readField};
 ghost use Rattle.pages.specs.declared.Access.the-variants.{Fetch};
 ghost use Rattle.pages.specs.declared.Look.the-variants.{At};
 ghost use Rattle.pages.specs.Look.{lookOf};
-ghost use Rattle.engine.specs.Entry.{halvesOf, stopOf, halfMarks, lookWanted, wantedMarks, fetched, fetching, whole};
+ghost use Rattle.engine.specs.Entry.{halvesOf, stopOf, halfMarks, lookWanted, wantedMarks, fetched, fetching};
 
-// How many halfwords are fetched, by the first: one only of an operation that is not known. The known ones of four and six bytes are bits,
-// in a row for each two left bits of the code (RR; RX; RS and SI; SS), the lowest code at the right: to ask `decode::action_of` a second
-// time would make its answer in `finish` slower.
+// How many halfwords are fetched, by the first: one only of an operation that is not known.
 fn halves_of(h1: u16) -> u32
     ensures { λ r. ⌜ r ≡ halvesOf h1 ⌝ }
 {
-    let rows: [u64; 4] = [0, 0xFFF1_1FEF, 0x01F7_CFC0, 0x0024_0000];
-    let row = rows[(h1 / 16384) as usize];
-    if (row >> (h1 / 256 % 64)) % 2 == 0 {
+    let found = decode::action_of((h1 / 256) as u8);
+    let Found::Known(x) = found else {
         return 1;
-    }
-    if h1 < 49152 { 2 } else { 3 }
+    };
+    (decode::length_of(x) / 2) as u32
 }
 
 // A look-up's refusal, handed on in place of the text (asked of a refusal only).

@@ -1,8 +1,9 @@
 // The engine: a step, a run, and the two public entries.
 pub mod door;
-pub mod fetching;
 pub mod formats;
+pub mod spinning;
 pub mod stepping;
+pub mod window;
 
 use actions::Now;
 use machine::Reply;
@@ -15,14 +16,6 @@ pub enum Fetched {
     Stop(u32, u32),
 }
 
-// Where a run fetches from without looking up again: a page that has its mark, from its first address on, as far as six bytes still lie
-// in what the look-up reaches, and where it begins in memory. A length of 0 stands for no page.
-pub struct Window {
-    pub first: u32,
-    pub len: u32,
-    pub base: usize,
-}
-
 // How a run ended.
 pub struct Ran {
     pub number: u32,
@@ -31,8 +24,15 @@ pub struct Ran {
     pub now: Now,
 }
 
-// One step from this state: number 0 and count 1 where it completed. It is a run of one, so that the loop and all below it have one
-// user, and the compiler puts them together (measured: with a second one a run takes three times as long).
+// How far the quick way went: the state's scalars there, how many steps are left, and whether it was stuck, so that the next one is for
+// the plain step.
+pub struct Spun {
+    pub now: Now,
+    pub left: u32,
+    pub stuck: bool,
+}
+
+// One step from this state, the plain way: number 0 and count 1 where it completed.
 pub fn step(
     mem: &mut [u8],
     map: &mut [u16],
@@ -43,8 +43,16 @@ pub fn step(
 ) -> Reply
     ensures { λ r. ⌜ outcome r (now (mem .exit)) (now (map .exit)) (now (regs .exit)) ≡ stepOutcome (given (now (mem .entry)) (now (map .entry)) (now (regs .entry)) pc code mask) ⌝ }
 {
-    let ran = run(mem, map, regs, pc, code, mask, 1);
-    door::step_reply(ran)
+    if door::is_proper(mem, map, regs, pc, code, mask) {
+        let c = Now {
+            pc: pc,
+            code: code,
+            mask: mask,
+        };
+        let out = stepping::step_once(regs, mem, map, c);
+        return door::step_reply(c, out);
+    }
+    door::away(pc, code, mask)
 }
 
 // At most `budget` steps, up to the first refusal: 7 where the budget is spent.

@@ -12,6 +12,7 @@ ghost use Rattle.pages.specs.Tests.{isStore};
 ghost use Rattle.pages.specs.Look.{fewer, lookOf};
 ghost use Rattle.pages.specs.Framed.{framedOf, accessedAt, writtenAt, readByte, writeByte};
 ghost use Rattle.lookup.specs.Barred.{barred, causeOf};
+ghost use Rattle.lookup.specs.Marked.{marked, MarkedLook};
 
 // The address after this one.
 pub fn next_of(a: u32) -> u32
@@ -159,6 +160,46 @@ pub fn look_up(map: &[u16], n: usize, access: Access, a: u32) -> Look
         return Look::Refused(Cause::Addressing, a);
     }
     Look::At(r, fewer_of(rest.left, n - r))
+}
+
+// Whether a page's word has the marks of an access already: G, and for a store W too.
+fn is_marked(w: u16, access: Access) -> bool
+    ensures { λ r. ⌜ r ≡ marked w access ⌝ }
+{
+    if w / 16384 % 2 == 0 {
+        return false;
+    }
+    if is_store(access) {
+        return 32768 <= w;
+    }
+    true
+}
+
+// The look-up of a byte whose page has the marks of the access already, so that setting them would change nothing, and lies in memory to
+// its end, so that the reach is what is left of it. Of any other page it says that it is refused, and means nothing by it.
+pub fn look_marked(map: &[u16], n: usize, access: Access, a: u32) -> Look
+    requires { ⌜ length (now map) ≡ 512 ⌝ }
+    ensures { λ r. ⌜ MarkedLook r (now (map .entry)) n access a ⌝ }
+{
+    if 2097152 <= a {
+        return Look::Refused(Cause::Addressing, a);
+    }
+    let w = map[(a / 4096) as usize];
+    if !is_marked(w, access) {
+        return Look::Refused(Cause::PagingQueue, a);
+    }
+    if is_barred(w, access) {
+        return Look::Refused(Cause::PagingError, a);
+    }
+    let rest = rest_of(w, a);
+    if rest.left == 0 {
+        return Look::Refused(Cause::PagingError, a);
+    }
+    let r = rest.base + (a % 4096) as usize;
+    if n < r + rest.left as usize {
+        return Look::Refused(Cause::Addressing, a);
+    }
+    Look::At(r, rest.left)
 }
 
 // G set on the page of a.

@@ -1,5 +1,5 @@
 mod RegisterLoops
-mod Multiples
+pub mod Multiples
 mod SignedShifts
 pub mod MultiplesReached
 pub mod BothReached

@@ -26,7 +26,7 @@ fn operand_address(regs: &[u32], c: Now, f: RsFields) -> u32
 }
 
 // The number of registers from R1 to R3, wrapping 15 to 0.
-fn how_many(f: RsFields) -> u32
+pub fn how_many(f: RsFields) -> u32
     ensures { λ r. ⌜ (r ≡ howMany f) × (r ≤ 16) ⌝ }
 {
     let top = f.r3 as u32 + 16;
@@ -51,7 +51,7 @@ fn reg_past(r: u8, n: u32) -> u8
 }
 
 // By real address, word by word: as many words as a look-up reached.
-fn fill_at(regs: &mut [u32], mem: &[u8], count: u32, first: u8, at: usize)
+pub fn fill_at(regs: &mut [u32], mem: &[u8], count: u32, first: u8, at: usize)
     requires { ⌜ at + count * 4 ≤ length (now mem) ⌝ }
     ensures { λ _. ⌜ now (regs .exit) ≡ filledAt (now (mem .entry)) count first at (now (regs .entry)) ⌝ }
 {
@@ -67,7 +67,7 @@ fn fill_at(regs: &mut [u32], mem: &[u8], count: u32, first: u8, at: usize)
     }
 }
 
-fn spill_at(regs: &[u32], mem: &mut [u8], count: u32, first: u8, at: usize)
+pub fn spill_at(regs: &[u32], mem: &mut [u8], count: u32, first: u8, at: usize)
     requires { ⌜ at + count * 4 ≤ length (now mem) ⌝ }
     ensures { λ _. ⌜ now (mem .exit) ≡ spilledAt (now (regs .entry)) count first at (now (mem .entry)) ⌝ }
 {
@@ -182,7 +182,7 @@ fn store_multiple(regs: &[u32], mem: &mut [u8], map: &mut [u16], c: Now, f: RsFi
 }
 
 // SLL, and SRL.
-fn shift_left(regs: &mut [u32], c: Now, f: RsFields) -> Now
+pub fn shift_left(regs: &mut [u32], c: Now, f: RsFields) -> Now
     ensures { λ n. ⌜ done (cpuOf (now (regs .exit)) n) ≡ rs RsAction.ShiftLeft f (cpuOf (now (regs .entry)) c) ⌝ }
 {
     let amount = operand_address(regs, c, f);
@@ -196,7 +196,7 @@ fn shift_left(regs: &mut [u32], c: Now, f: RsFields) -> Now
     }
 }
 
-fn shift_right(regs: &mut [u32], c: Now, f: RsFields) -> Now
+pub fn shift_right(regs: &mut [u32], c: Now, f: RsFields) -> Now
     ensures { λ n. ⌜ done (cpuOf (now (regs .exit)) n) ≡ rs RsAction.ShiftRight f (cpuOf (now (regs .entry)) c) ⌝ }
 {
     let amount = operand_address(regs, c, f);
@@ -211,7 +211,7 @@ fn shift_right(regs: &mut [u32], c: Now, f: RsFields) -> Now
 }
 
 // R1 + R3 in 32 bits.
-fn index_sum(regs: &[u32], c: Now, f: RsFields) -> u32
+pub fn index_sum(regs: &[u32], c: Now, f: RsFields) -> u32
     ensures { λ r. ⌜ r ≡ indexSum f (cpuOf (now (regs .entry)) c) ⌝ }
 {
     let a = registers::reg(regs, f.r1);
@@ -220,7 +220,7 @@ fn index_sum(regs: &[u32], c: Now, f: RsFields) -> u32
 }
 
 // Whether the sum is above R3 when R3 is odd, else above R3 + 1.
-fn is_high(regs: &[u32], c: Now, f: RsFields, sum: u32) -> bool
+pub fn is_high(regs: &[u32], c: Now, f: RsFields, sum: u32) -> bool
     requires { ⌜ sum ≡ indexSum f (cpuOf (now regs) c) ⌝ }
     ensures { λ r. ⌜ r ≡ isHigh f (cpuOf (now (regs .entry)) c) ⌝ }
 {
@@ -252,7 +252,7 @@ fn branch_low_equal(regs: &mut [u32], c: Now, f: RsFields) -> Now
 }
 
 // SLA SRA.
-fn shift_signed(regs: &mut [u32], c: Now, to: Direction, f: RsFields) -> Now
+pub fn shift_signed(regs: &mut [u32], c: Now, to: Direction, f: RsFields) -> Now
     ensures { λ n. ⌜ done (cpuOf (now (regs .exit)) n) ≡ rs (RsAction.ShiftSigned to) f (cpuOf (now (regs .entry)) c) ⌝ }
 {
     let amount = operand_address(regs, c, f);
@@ -267,7 +267,7 @@ fn shift_signed(regs: &mut [u32], c: Now, to: Direction, f: RsFields) -> Now
 }
 
 // SLDA SRDA.
-fn shift_double(regs: &mut [u32], c: Now, to: Direction, f: RsFields) -> Out
+pub fn shift_double(regs: &mut [u32], c: Now, to: Direction, f: RsFields) -> Out
     ensures { λ o. ⌜ answersTo o (now (regs .entry)) (now (regs .exit)) (rs (RsAction.ShiftDouble to) f (cpuOf (now (regs .entry)) c)) ⌝ }
 {
     if f.r1 % 2 != 0 {

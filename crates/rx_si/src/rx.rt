@@ -108,7 +108,7 @@ fn store(regs: &[u32], mem: &mut [u8], map: &mut [u16], c: Now, width: Width, f:
 }
 
 // LA.
-fn load_address(regs: &mut [u32], c: Now, f: RxFields) -> Now
+pub fn load_address(regs: &mut [u32], c: Now, f: RxFields) -> Now
     ensures { λ n. ⌜ done (cpuOf (now (regs .exit)) n) ≡ rx RxAction.LoadAddress f (cpuOf (now (regs .entry)) c) ⌝ }
 {
     let at = operand_address(regs, c, f);

@@ -16,6 +16,7 @@ use Rattle.slips.specs.SignedShifts as shifts
 use Rattle.slips.specs.Branches as branches
 use Rattle.slips.specs.Order as order
 use Rattle.slips.specs.Runs as runs
+use Rattle.slips.specs.Seam as seam
 use Rattle.slips.specs.Sheets as sheets
 use Rattle.slips.specs.Answers as answers
 use Rattle.slips.specs.Listings as listings
@@ -72,6 +73,10 @@ order-shown = refl
 pub runs-shown : unshown runs.slips ≡ []
 unfolding computes
 runs-shown = refl
+
+pub seam-shown : unshown seam.slips ≡ []
+unfolding computes
+seam-shown = refl
 
 pub sheets-shown : unshown sheets.slips ≡ []
 unfolding sheets.computes

@@ -14,6 +14,7 @@ pub mod SignedShifts
 pub mod Branches
 pub mod Order
 pub mod Runs
+pub mod Seam
 pub mod Sheets
 pub mod Answers
 pub mod Listings

@@ -2,8 +2,6 @@ use borrow.Author.Tests.{eq-eqb, ne-eqb, le-leb, lt-leb, lt-ltb, le-ltb}
 use Rattle.machine.specs.Machine.{proper}
 use Rattle.engine.proofs.door.is_proper.Statement.{statement}
 use Rattle.engine.proofs.door.is_proper.Tie as tie
-use Rattle.engine.proofs.door.is_proper.Reads as reads
-use Rattle.engine.proofs.door.is_proper.Lts as lts
 
 returns : tie.Need-returns
 unfolding proper
