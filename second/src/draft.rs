@@ -1,6 +1,7 @@
 //! A sheet in the making, and the small assembler used to fill it.
 
 use crate::sheet::MEMORY;
+pub use common::assemble::{rr, rs, rx, si, ss};
 
 #[derive(Clone, Debug, Default)]
 pub struct Draft {
@@ -74,37 +75,4 @@ impl Draft {
         text += &format!("RUN\t{}\n", self.budget);
         text.into_bytes()
     }
-}
-
-pub fn rr(code: u8, r1: u8, r2: u8) -> Vec<u8> {
-    vec![code, r1 * 16 + r2]
-}
-
-pub fn rx(code: u8, r1: u8, x2: u8, b2: u8, d2: u32) -> Vec<u8> {
-    vec![
-        code,
-        r1 * 16 + x2,
-        b2 * 16 + (d2 / 256) as u8,
-        (d2 % 256) as u8,
-    ]
-}
-
-pub fn rs(code: u8, r1: u8, r3: u8, b2: u8, d2: u32) -> Vec<u8> {
-    rx(code, r1, r3, b2, d2)
-}
-
-pub fn si(code: u8, immediate: u8, b1: u8, d1: u32) -> Vec<u8> {
-    vec![
-        code,
-        immediate,
-        b1 * 16 + (d1 / 256) as u8,
-        (d1 % 256) as u8,
-    ]
-}
-
-pub fn ss(code: u8, length: u8, b1: u8, d1: u32, b2: u8, d2: u32) -> Vec<u8> {
-    let mut text = si(code, length, b1, d1);
-    text.push(b2 * 16 + (d2 / 256) as u8);
-    text.push((d2 % 256) as u8);
-    text
 }

@@ -25,6 +25,7 @@ pub mod programs;
 pub mod reach;
 mod results;
 pub mod scene;
+pub mod seam;
 pub mod seen;
 pub mod sheet;
 pub mod stretches;

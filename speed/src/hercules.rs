@@ -2,7 +2,7 @@
 
 use crate::clock;
 use crate::machine::{Machine, PAGE};
-use crate::programs::Program;
+use crate::programs::{Place, Program};
 use common::bytes::{from_hex, put};
 use common::hercules::{run, Ended, OldPsw};
 use std::path::PathBuf;
@@ -49,22 +49,27 @@ fn storage(program: &Program, rounds: u32) -> Vec<u8> {
     storage
 }
 
-/// What differs first between storage at the end and a machine, if anything does.
-fn difference(storage: &[u8], program: &Program, machine: &Machine) -> Option<String> {
-    let psw = OldPsw::read(std::array::from_fn(|i| storage[OLD_PSW + i]));
+/// What differs first between what Hercules left, registers and the old PSW in bytes, pages in storage, and a machine that ended for want
+/// of an operation, if anything does.
+pub fn difference(
+    registers: &[u8],
+    psw: [u8; 8],
+    (storage, places): (&[u8], &[Place]),
+    machine: &Machine,
+) -> Option<String> {
+    let psw = OldPsw::read(psw);
     if psw.number != OPERATION || psw.place != machine.counter {
         return Some(format!("interruption {} at {:06X}", psw.number, psw.place));
     }
-    if u32::from(psw.code) != machine.code {
-        return Some("another condition code".to_string());
+    if (u32::from(psw.code), u32::from(psw.mask)) != (machine.code, machine.mask) {
+        return Some("another condition code, or another mask".to_string());
     }
     for (i, word) in machine.registers.iter().enumerate() {
-        if storage[REGISTERS_AFTER + 4 * i..][..4] != word.to_be_bytes() {
+        if registers[4 * i..][..4] != word.to_be_bytes() {
             return Some(format!("register {i} differs"));
         }
     }
-    program
-        .places()
+    places
         .iter()
         .find(|place| {
             let bytes = &machine.memory[place.real..][..place.bytes];
@@ -81,8 +86,10 @@ impl Hercules {
     }
 
     pub fn check(&self, program: &Program, rounds: u32, wanted: &Machine) -> Result<(), String> {
-        let ended = run(&self.folder, &storage(program, rounds))?;
-        difference(&ended.storage, program, wanted).map_or(Ok(()), Err)
+        let storage = run(&self.folder, &storage(program, rounds))?.storage;
+        let registers = &storage[REGISTERS_AFTER..][..64];
+        let psw = std::array::from_fn(|i| storage[OLD_PSW + i]);
+        difference(registers, psw, (&storage, &program.places()), wanted).map_or(Ok(()), Err)
     }
 
     /// The processor time of a whole process that does so many rounds.

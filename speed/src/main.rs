@@ -20,6 +20,8 @@ mod month_end;
 mod ordinary;
 mod programs;
 mod proved;
+mod seam;
+mod seam_guest;
 mod sheet_timing;
 mod sheets;
 mod table;
@@ -75,6 +77,7 @@ fn check(folder: &str, letters: &str, without: &str) -> Result<(), Trouble> {
     let hercules = begin_hercules(folder, without)?;
     let mut agreed = check_programs(&chosen(letters)?, hercules.as_ref())?;
     agreed += check::generated().map_err(Trouble::Differs)?;
+    agreed += seam::check(hercules.as_ref()).map_err(Trouble::Differs)?;
     agreed += sheets::check().map_err(Trouble::Differs)?;
     println!("speed: {agreed} checks passed");
     Ok(())

@@ -45,7 +45,7 @@ pub struct Place {
     pub page: usize,
     pub real: usize,
     pub bytes: usize,
-    word: u16,
+    pub word: u16,
 }
 
 /// A page, its frame, and so that the map has something to do, not the frame of its own number; and which half of it where pages are

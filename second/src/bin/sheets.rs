@@ -4,9 +4,11 @@
 //!     sheets --labels SEED COUNT   what each sheet was made for
 //!     sheets --one SEED INDEX      one sheet by itself (counted from 0)
 //!     sheets --census SEED COUNT   what they do on our own machine
+//!     sheets --seam SEED           those about the seam between two ways of a
+//!                                  step, all of them
 
 use second::generate::Generator;
-use second::{census, many};
+use second::{census, many, seam};
 use std::io::{self, Write};
 use std::process::ExitCode;
 
@@ -14,6 +16,7 @@ fn main() -> ExitCode {
     let arguments: Vec<String> = std::env::args().skip(1).collect();
     let words: Vec<&str> = arguments.iter().map(|word| word.as_str()).collect();
     let (flag, numbers) = match words.as_slice() {
+        ["--seam", seed] => ("--seam", (seed.parse(), Ok(0))),
         [flag, first, second] => (*flag, (first.parse::<u64>(), second.parse::<u64>())),
         [first, second] => ("", (first.parse(), second.parse())),
         _ => return usage(),
@@ -53,12 +56,17 @@ fn made(flag: &str, seed: u64, count: u64) -> Option<Vec<u8>> {
             out = generator.make().text;
         }
         "--census" => out = census::take(seed, count).text().into_bytes(),
+        "--seam" => {
+            for sheet in seam::sheets(seed) {
+                many::push(&mut out, &sheet);
+            }
+        }
         _ => return None,
     }
     Some(out)
 }
 
 fn usage() -> ExitCode {
-    eprintln!("sheets SEED COUNT | sheets --labels SEED COUNT | sheets --one SEED INDEX | sheets --census SEED COUNT");
+    eprintln!("sheets SEED COUNT | sheets --labels SEED COUNT | sheets --one SEED INDEX | sheets --census SEED COUNT | sheets --seam SEED");
     ExitCode::FAILURE
 }
