@@ -1,4 +1,6 @@
 // What the executors share: the state's scalars, an executor's answer, registers, pairs and branches; and the executor of the RR format.
+#![tactic(auto)]
+
 pub mod branches;
 pub mod pairs;
 pub mod registers;
@@ -12,7 +14,7 @@ use pages::{Cause, Look};
 
 // The state's scalars; the registers are lent beside it. Twelve bytes: a struct of eight is carried as one number, and then the next
 // fetch waits for the condition code (measured: 17 ns an instruction instead of 7).
-#[derive(Drop)]
+#[derive(Clone, Copy)]
 pub struct Now {
     pub pc: u32,
     pub code: u32,
@@ -20,7 +22,7 @@ pub struct Now {
 }
 
 // An instruction's answer: done, with the scalars afterwards, or stopped with a number at a place.
-#[derive(Drop)]
+#[derive(Clone, Copy)]
 pub enum Out {
     Done(Now),
     Stop(u32, u32),

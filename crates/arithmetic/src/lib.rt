@@ -1,4 +1,6 @@
 // The machine's arithmetic, against the whole numbers that words stand for.
+#![tactic(auto)]
+
 ghost use Rattle.std.specs.Prelude.{◌≡◌};
 ghost use Rattle.std.specs.Int.Signed.{lt_z};
 ghost use Rattle.words.specs.Whole.{word_top, signed, spread};

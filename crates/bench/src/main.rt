@@ -1,5 +1,7 @@
 // The bench: one sheet from standard input, its answer to standard output. Where the one cannot be read or the other not written,
 // standard error has a line that says so.
+#![tactic(auto)]
+
 use streams::Course;
 
 fn answer() -> Course {

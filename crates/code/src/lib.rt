@@ -1,36 +1,38 @@
 // The instruction code: actions by format, and the fields of an instruction. What they mean is in specs; the crate decode finds them.
+#![tactic(auto)]
+
 use words::{Alu, Direction, Logic, PairOp};
 
 // What a load takes from memory, and what it does with it.
-#[derive(Drop)]
+#[derive(Clone, Copy)]
 pub enum Operand {
     WordWith(Alu),
     HalfWith(Alu),
     ByteInserted,
 }
 
-#[derive(Drop)]
+#[derive(Clone, Copy)]
 pub enum Width {
     Word,
     Half,
     Byte,
 }
 
-#[derive(Drop)]
+#[derive(Clone, Copy)]
 pub enum Branch {
     OnCondition,
     AndLink,
     OnCount,
 }
 
-#[derive(Drop)]
+#[derive(Clone, Copy)]
 pub enum RrAction {
     Registers(Alu),
     RegisterBranch(Branch),
     PairAndRegister(PairOp),
 }
 
-#[derive(Drop)]
+#[derive(Clone, Copy)]
 pub enum RxAction {
     Taking(Operand),
     Storing(Width),
@@ -39,7 +41,7 @@ pub enum RxAction {
     PairAndWord(PairOp),
 }
 
-#[derive(Drop)]
+#[derive(Clone, Copy)]
 pub enum RsAction {
     LoadMultiple,
     StoreMultiple,
@@ -51,7 +53,7 @@ pub enum RsAction {
     ShiftDouble(Direction),
 }
 
-#[derive(Drop)]
+#[derive(Clone, Copy)]
 pub enum SiAction {
     CompareByte,
     TestMask,
@@ -59,14 +61,14 @@ pub enum SiAction {
     MoveByte,
 }
 
-#[derive(Drop)]
+#[derive(Clone, Copy)]
 pub enum SsAction {
     MoveField,
     CompareField,
 }
 
 // An operation, by its format.
-#[derive(Drop)]
+#[derive(Clone, Copy)]
 pub enum Action {
     Rr(RrAction),
     Rx(RxAction),
@@ -75,19 +77,19 @@ pub enum Action {
     Ss(SsAction),
 }
 
-#[derive(Drop)]
+#[derive(Clone, Copy)]
 pub enum Found {
     Known(Action),
     Unknown,
 }
 
-#[derive(Drop)]
+#[derive(Clone, Copy)]
 pub struct RrFields {
     pub r1: u8,
     pub r2: u8,
 }
 
-#[derive(Drop)]
+#[derive(Clone, Copy)]
 pub struct RxFields {
     pub r1: u8,
     pub x2: u8,
@@ -95,7 +97,7 @@ pub struct RxFields {
     pub d2: u16,
 }
 
-#[derive(Drop)]
+#[derive(Clone, Copy)]
 pub struct RsFields {
     pub r1: u8,
     pub r3: u8,
@@ -103,14 +105,14 @@ pub struct RsFields {
     pub d2: u16,
 }
 
-#[derive(Drop)]
+#[derive(Clone, Copy)]
 pub struct SiFields {
     pub i2: u8,
     pub b1: u8,
     pub d1: u16,
 }
 
-#[derive(Drop)]
+#[derive(Clone, Copy)]
 pub struct SsFields {
     pub l: u8,
     pub b1: u8,

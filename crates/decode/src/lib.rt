@@ -1,5 +1,7 @@
 // Decoding: an instruction's action, from its operation code, and its fields, from its halfwords. The enums' cases are imported by their
 // own names, so that a row here reads as in code/specs/Table.
+#![tactic(auto)]
+
 ghost use Rattle.std.specs.Prelude.{◌≡◌};
 ghost use Rattle.code.specs.Table.{action_of};
 ghost use Rattle.code.specs.Formats.{length_of, rr_of, rx_of, rs_of, si_of, ss_of};

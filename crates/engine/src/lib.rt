@@ -1,4 +1,6 @@
 // The engine: a step, a run, and the two public entries.
+#![tactic(auto)]
+
 pub mod door;
 pub mod formats;
 pub mod spinning;
@@ -12,14 +14,14 @@ use actions::Now;
 use machine::Reply;
 
 // An instruction's halfwords from the counter on, or the refusal that comes before them all are had.
-#[derive(Drop)]
+#[derive(Clone, Copy)]
 pub enum Fetched {
     Whole(u16, u16, u16),
     Stop(u32, u32),
 }
 
 // How a run ended.
-#[derive(Drop)]
+#[derive(Clone, Copy)]
 pub struct Ran {
     pub number: u32,
     pub place: u32,
@@ -29,7 +31,7 @@ pub struct Ran {
 
 // How far the quick way went: the state's scalars there, how many steps are left, and whether it was stuck, so that the next one is for
 // the plain step.
-#[derive(Drop)]
+#[derive(Clone, Copy)]
 pub struct Spun {
     pub now: Now,
     pub left: u32,

@@ -1,5 +1,7 @@
 // Fields of bytes in storage: looked up before anything is stored, noted, read, written, moved and compared. As far as a look-up reaches, by
 // real address.
+#![tactic(auto)]
+
 pub mod blocks; // blocks.rt: stretches of memory moved and compared
 pub mod each; // each.rt: a move and a compare byte by byte, the plain way
 pub mod flat; // flat.rt: operands by real address
@@ -15,7 +17,7 @@ use code::Width;
 use pages::{Access, Cause, Look};
 
 // So many bytes from an address on, and what they are wanted for.
-#[derive(Drop)]
+#[derive(Clone, Copy)]
 pub struct Field {
     pub access: Access,
     pub at: u32,
@@ -23,7 +25,7 @@ pub struct Field {
 }
 
 // A field in at most two stretches of memory: its first bytes, so many as `len` says, from `at` on, and the rest from `on` on.
-#[derive(Drop)]
+#[derive(Clone, Copy)]
 pub struct Span {
     pub at: usize,
     pub len: u32,
@@ -31,7 +33,7 @@ pub struct Span {
 }
 
 // What a compare comes to: the condition code, or the refusal.
-#[derive(Drop)]
+#[derive(Clone, Copy)]
 pub enum Order {
     Code(u32),
     Barred(Cause, u32),

@@ -1,6 +1,8 @@
 // Demands 1 and 3 as promises of the Rattle run and of the Rattle step themselves: that a refusal leaves no trace but the marks of its
 // fetch, and that one member's pages never show in another's figure. Each is the public entry and nothing more; what it ensures beside the
 // entry's own equation follows from that equation, by the laws of the crate demand.
+#![tactic(auto)]
+
 ghost use Rattle.std.specs.Prelude.{◌≡◌};
 ghost use Rattle.machine.specs.Machine.{given, outcome, cpu_in, step_outcome, run_outcome};
 ghost use Rattle.demand.specs.Plain.{plain_step, plain_run};

@@ -1,6 +1,8 @@
 // A listing of code bytes: the answer in numbers. What its lines are and say is in specs, their laws in proofs; the crate listing
 // writes them.
-#[derive(Drop)]
+#![tactic(auto)]
+
+#[derive(Clone, Copy)]
 pub struct Listed {
     pub number: u32, // 0, or 6 for a start out of range
     pub lines: usize, // how many lines were written

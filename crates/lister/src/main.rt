@@ -5,6 +5,8 @@
 // the line BAD, as the bench has it, or the line REFUSED, number and place.
 //
 // Where the input is not of that form or cannot be read, and where a listing cannot be written, standard error has a line that says so.
+#![tactic(auto)]
+
 ghost use Rattle.std.specs.Prelude.{◌≤◌, length};
 
 use reading::digits::Num;

@@ -2,6 +2,8 @@
 //
 // A reader walks the code and keeps its place in it. The borrow checker covers no function over a struct that holds a reference, so
 // the functions over it are few and thin, and proved by hand; the work is in `list_from`, which takes the slice and the place.
+#![tactic(auto)]
+
 ghost use Rattle.std.specs.Prelude.{◌≡◌};
 ghost use Rattle.lines.specs.Listing.{answered, listed_from, listed};
 

@@ -1,4 +1,6 @@
 // The look-up of a byte, reading and storing through it, and the marks.
+#![tactic(auto)]
+
 ghost use Rattle.std.specs.Prelude.{◌≡◌, ◌<◌, ◌+◌, ◌-◌, ◌%◌, eqb, length};
 ghost use Rattle.words.specs.Pick.{both};
 ghost use Rattle.pages.specs.Word.{next, page_of, disp_of, word_of, base, size, bit_e};
@@ -97,7 +99,7 @@ fn base_of(w: u16) -> usize
 }
 
 // Where a page's first byte lies, and how many of its bytes there are from an address on; none past its end.
-#[derive(Drop)]
+#[derive(Clone, Copy)]
 struct Rest {
     base: usize,
     left: u32,

@@ -1,6 +1,8 @@
 // The machine's answer to a step or a run, in numbers: document 01's number, place and count, and the state's scalars afterwards.
 // All else of this crate is definitions (specs) and their laws (proofs).
-#[derive(Drop)]
+#![tactic(auto)]
+
+#[derive(Clone, Copy)]
 pub struct Reply {
     pub number: u32,
     pub place: u32,

@@ -1,17 +1,19 @@
 // Many sheets in one input, each after its length in decimal and LF; the answers go out in the same form. The input may end
 // between two sheets. Where it ends within one, is not of that form or cannot be read, and where an answer cannot be written,
 // standard error has a line that says so, and the program ends.
+#![tactic(auto)]
+
 ghost use Rattle.std.specs.Prelude.{◌<◌};
 
 use streams::Course;
 
-#[derive(Drop)]
+#[derive(Clone, Copy)]
 enum Byte {
     Is(u8),
     Not(Course),
 }
 
-#[derive(Drop)]
+#[derive(Clone, Copy)]
 enum Length {
     Is(usize),
     Not(Course),

@@ -1,5 +1,7 @@
 // The engine for programs in other languages to link: a single step, a run, a sheet's answer, and a listing of code. Only numbers and
 // slices cross.
+#![tactic(auto)]
+
 ghost use Rattle.std.specs.Prelude.{◌≡◌, eqb, length};
 ghost use Rattle.words.specs.Pick.{pick};
 ghost use Rattle.outer.specs.Crossing.{version, crossed, six, lent, read_off, step_crossed, StepMeets, run_crossed, RunMeets, sheet_crossed, SheetMeets, crossed_list, list_crossed};

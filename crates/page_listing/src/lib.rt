@@ -1,4 +1,6 @@
 // The listing of a page of a machine: its bytes as the look-up finds them, listed at the page's own address.
+#![tactic(auto)]
+
 ghost use Rattle.std.specs.Prelude.{◌≡◌, ◌≤◌, ◌<◌, ◌+◌, length, take, drop};
 ghost use Rattle.pages.specs.Tests.{number_of};
 ghost use Rattle.lines.specs.Listing.{listed};
@@ -7,7 +9,7 @@ ghost use Rattle.page_listing.specs.Page.{first_of, page_answered, of_page, refu
 use pages::{Access, Cause, Look};
 
 // The answer: that of a listing, and where a byte was refused.
-#[derive(Drop)]
+#[derive(Clone, Copy)]
 pub struct PageListed {
     pub number: u32, // 0; what the page's first byte is refused with; or 6 for a page that the machine lacks
     pub place: u32, // the address of the byte that was refused, else 0

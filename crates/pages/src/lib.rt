@@ -1,7 +1,8 @@
 // Pages: what a byte is wanted for, and what its look-up answers. What that means is in specs; the crate lookup does it.
+#![tactic(auto)]
 
 // What a byte is wanted for.
-#[derive(Drop)]
+#[derive(Clone, Copy)]
 pub enum Access {
     Fetch,
     Load,
@@ -9,7 +10,7 @@ pub enum Access {
 }
 
 // Why a look-up refuses.
-#[derive(Drop)]
+#[derive(Clone, Copy)]
 pub enum Cause {
     Addressing,
     PagingQueue,
@@ -17,7 +18,7 @@ pub enum Cause {
 }
 
 // A byte's look-up: its real address and how far it reaches, or the cause and the place of the refusal.
-#[derive(Drop)]
+#[derive(Clone, Copy)]
 pub enum Look {
     At(usize, u32),
     Refused(Cause, u32),

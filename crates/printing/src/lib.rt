@@ -1,4 +1,6 @@
 // The answer's text (document 01, "The bench sheet"), in a buffer by value.
+#![tactic(auto)]
+
 ghost use Rattle.std.specs.Prelude.{◌≡◌, ◌≤◌, length};
 ghost use Rattle.printing.specs.Lines.{bad_line};
 ghost use Rattle.printing.specs.Answer.{answer_text, text_of};

@@ -2,6 +2,8 @@
 // standard input (case.rt has their form) and writes each outcome, whole, to standard output (told.rt). The input may end between
 // two cases. Where it ends within one, is not of that form or cannot be read, and where an outcome cannot be written, standard
 // error has a line that says so, and the program ends.
+#![tactic(auto)]
+
 ghost use Rattle.std.specs.Prelude.{◌≤◌};
 
 mod case;

@@ -2,6 +2,8 @@
 // run's window, every page that it touches lies in memory to its end, and nothing is refused. A mark that is missing is set where the row is
 // sure to be done. What is done is the definition's step; of whatever else comes it says `Undone`, and the plain step does it. A row that is
 // missing here is slow, and never wrong.
+#![tactic(auto)]
+
 pub mod branches; // branches.rt: rows that branch
 pub mod free; // free.rt: rows that touch no storage
 pub mod moves; // moves.rt: moves and compares of two fields
@@ -17,7 +19,7 @@ use actions::Now;
 
 // Where a run fetches from without looking up: a page that has its mark, from its first address on, as far as six bytes still lie in what
 // the look-up reaches, and where it begins in memory. A length of 0 stands for no page.
-#[derive(Drop)]
+#[derive(Clone, Copy)]
 pub struct Window {
     pub first: u32,
     pub len: u32,
@@ -28,7 +30,7 @@ pub struct Window {
 // the window; or nothing was done, and counter and code are handed back as they were. (Said again, they need not be kept beside the
 // answer: measured, five instructions in each of the guest's. Each has the same two kinds of number: with others, what a case does not
 // use would be carried round the loop, three more.)
-#[derive(Drop)]
+#[derive(Clone, Copy)]
 pub enum Turn {
     On(usize, u32),
     Away(usize, u32),
@@ -36,7 +38,7 @@ pub enum Turn {
 }
 
 // Where a run is in its window: the instruction's place in memory and its first halfword, and the state's scalars but for the counter.
-#[derive(Drop)]
+#[derive(Clone, Copy)]
 pub struct Here {
     pub window: Window,
     pub at: usize,

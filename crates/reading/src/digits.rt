@@ -4,7 +4,7 @@ ghost use Rattle.words.specs.Pick.{pick, both};
 ghost use Rattle.reading.specs.Digits.{digit_of, value_of, all_digits, is_decimal, is_hex, is_bytes};
 
 // A number, or that the text is none.
-#[derive(Drop)]
+#[derive(Clone, Copy)]
 pub enum Num {
     Got(u32),
     No,

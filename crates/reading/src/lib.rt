@@ -1,4 +1,6 @@
 // The bench sheet, from its bytes to the machine's setting.
+#![tactic(auto)]
+
 pub mod cut; // cut.rt: a text cut at a mark; two texts compared
 pub mod digits; // digits.rt: numbers
 mod line;
@@ -15,7 +17,7 @@ use cut::front;
 use sheet::{Progress, Step, take_text};
 
 // What START and RUN say.
-#[derive(Drop)]
+#[derive(Clone, Copy)]
 pub struct Start {
     pub pc: u32,
     pub code: u32,
@@ -24,7 +26,7 @@ pub struct Start {
 }
 
 // The number of the first bad line, or a good sheet.
-#[derive(Drop)]
+#[derive(Clone, Copy)]
 pub enum Reading {
     Bad(u32),
     Good(Start),

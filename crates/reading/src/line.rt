@@ -7,7 +7,7 @@ use crate::cut::{back, equal, front};
 use crate::digits::{Num, decimal, hex, hex_bytes};
 
 // What a line says. The bytes of a BYTES line stay where they are, behind its second tab.
-#[derive(Drop)]
+#[derive(Clone, Copy)]
 pub enum Line {
     Page(u32, u16),
     Bytes(u32),

@@ -8,7 +8,7 @@ use crate::line::{Line, read_line};
 use crate::store::{give, put_bytes, put_reg, put_word};
 
 // How far a sheet has got, and what START and RUN said.
-#[derive(Drop)]
+#[derive(Clone, Copy)]
 pub struct Progress {
     pub stage: u32,
     pub pc: u32,
@@ -18,7 +18,7 @@ pub struct Progress {
 }
 
 // A line that does not go here, or what it leads to.
-#[derive(Drop)]
+#[derive(Clone, Copy)]
 pub enum Step {
     Off,
     On(Progress),

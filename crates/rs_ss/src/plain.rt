@@ -49,7 +49,7 @@ pub fn execute(
 }
 
 // What the two ways answer.
-#[derive(Drop)]
+#[derive(Clone, Copy)]
 pub struct Ways {
     pub quick: Out,
     pub plain: Out,

@@ -1,4 +1,6 @@
 // The bench sheet: read, run, printed.
+#![tactic(auto)]
+
 ghost use Rattle.std.specs.Prelude.{◌≡◌};
 ghost use Rattle.printing.specs.Answer.{text_of};
 ghost use Rattle.sheet.specs.Sheet.{answer_of};

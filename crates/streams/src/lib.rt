@@ -1,9 +1,11 @@
 // Standard input and output for the programs: how far a read came, whether a write went through, and one line on standard error
 // where something went wrong. A program cannot set an exit status, so that line is how its caller knows.
+#![tactic(auto)]
+
 ghost use Rattle.std.specs.Prelude.{◌≤◌, length};
 
 // How reading an entry and writing its answer went.
-#[derive(Drop)]
+#[derive(Clone, Copy)]
 pub enum Course {
     Fine,
     End, // the input ended before the entry
@@ -14,7 +16,7 @@ pub enum Course {
 }
 
 // How many bytes were read, and whether a read that failed ended it.
-#[derive(Drop)]
+#[derive(Clone, Copy)]
 pub struct Taken {
     pub count: usize,
     pub is_failed: bool,

@@ -1,0 +1,5 @@
+use Rattle.arithmetic.proofs.Results.{add_words}
+use Rattle.arithmetic.proofs.signed.add.Goals as goal
+
+pub returns : goal.returns
+returns c = search add_words

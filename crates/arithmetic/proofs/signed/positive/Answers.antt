@@ -1,0 +1,5 @@
+use Rattle.arithmetic.proofs.Results.{positive_word}
+use Rattle.arithmetic.proofs.signed.positive.Goals as goal
+
+pub returns : goal.returns
+returns c = search positive_word

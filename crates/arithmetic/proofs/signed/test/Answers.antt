@@ -1,0 +1,5 @@
+use Rattle.arithmetic.proofs.Results.{test_word}
+use Rattle.arithmetic.proofs.signed.test.Goals as goal
+
+pub returns : goal.returns
+returns c = search test_word

@@ -1,0 +1,15 @@
+use Rattle.pages.specs.Word.{bit_g}
+use Rattle.lookup.proofs.HasMarks.{no_mark, store_mark, load_mark}
+use Rattle.lookup.proofs.is_marked.Goals as goal
+
+pub returns-then-w-eq0 : goal.returns-then-w-eq0
+unfolding bit_g
+returns-then-w-eq0 c = no_mark _ _ c.if-w-eq0.true
+
+pub returns-then-is_store : goal.returns-then-is_store
+unfolding bit_g
+returns-then-is_store c = store_mark _ _ c.if-w-eq0.false _ c.is_store.ensures c.if-is_store.true
+
+pub returns : goal.returns
+unfolding bit_g
+returns c = load_mark _ _ c.if-w-eq0.false _ c.is_store.ensures c.if-is_store.false

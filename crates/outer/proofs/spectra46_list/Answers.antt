@@ -1,0 +1,11 @@
+use Rattle.outer.proofs.Listings.{third_in, list_away, list_back}
+use Rattle.outer.proofs.spectra46_list.Goals as goal
+
+pub returns-then-told-ne3 : goal.returns-then-told-ne3
+returns-then-told-ne3 c = search list_away
+
+pub bounds-told-2 : goal.bounds-told-2
+bounds-told-2 c = search third_in
+
+pub returns : goal.returns
+returns c = search list_back

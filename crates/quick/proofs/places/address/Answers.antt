@@ -1,0 +1,6 @@
+use Rattle.machine.specs.Cpu.{address}
+use Rattle.quick.proofs.places.address.Goals as goal
+
+pub returns : goal.returns
+unfolding address
+returns c = λ d. rw (c.part-index.ensures d, c.part-base.ensures d, c.half_of-h.ensures)

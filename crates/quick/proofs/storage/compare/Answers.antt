@@ -1,0 +1,15 @@
+use mathlib.Core.Path.{refl, ◌∙◌, ap}
+use Prim.Native.Nat.{ℕ, ◌%◌}
+use Rattle.words.specs.Codes.{compare_bits}
+use Rattle.quick.specs.Work.{compares_byte}
+use Rattle.quick.proofs.Answered.{did_not, did_on, lies_byte}
+use Rattle.quick.proofs.storage.compare.Goals as goal
+
+pub returns-in_default : goal.returns-in_default
+returns-in_default c = did_not c.args.p _ c.undone.ensures _ _ _ c.in_default.is _ _
+
+pub byte_of-b-requires : goal.byte_of-b-requires
+byte_of-b-requires c = lies_byte _ _ _ _ c.requires.1 c.in-At.is
+
+pub returns : goal.returns
+returns c = did_on c.args.p c.args.found (compares_byte c.args.p.text c.args.mem.now) _ _ _ c.in-At.i c.in-At.field-1 c.in-At.is refl (c.compare_bits.ensures ∙ ap (λ (x : ℕ). compare_bits x (c.args.p.text % 256)) c.byte_of-b.ensures)

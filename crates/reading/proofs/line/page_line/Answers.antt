@@ -1,0 +1,14 @@
+use Rattle.reading.proofs.LineFields.{word_fits, entry_no, entry_bad, entry_is}
+use Rattle.reading.proofs.line.page_line.Goals as goal
+
+pub returns-in_default : goal.returns-in_default
+returns-in_default c = record { line = search entry_no; hex = tt }
+
+pub returns-in_default-hex : goal.returns-in_default-hex
+returns-in_default-hex c = record { line = search entry_bad; hex = tt }
+
+pub overflow_cast-result : goal.overflow_cast-result
+overflow_cast-result c = record { fits = search word_fits }
+
+pub returns : goal.returns
+returns c = record { line = search entry_is; hex = tt }

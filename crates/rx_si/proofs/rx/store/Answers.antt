@@ -1,0 +1,26 @@
+use Rattle.pages.specs.declared.Access.TheVariants.{Store}
+use Rattle.actions.proofs.Executed.{operand_off, operand_stop, operand_go, stored}
+use Rattle.fields.proofs.Found.{off_is, on_is, len_is, width_some, aligned_fits, found_inside, found_write, found_note}
+use Rattle.machine.specs.Rx.{rx}
+use Rattle.machine.specs.Cpu.{reg}
+use Rattle.machine.specs.Fields.{storing, bytes_of}
+use mathlib.Core.Path.{refl}
+use Rattle.rx_si.proofs.rx.store.Goals as goal
+
+pub returns-then-is_off : goal.returns-then-is_off
+unfolding rx storing
+returns-then-is_off c = rw (← c.operand_address-at.ensures) (operand_off _ _ _ _ _ _ _ _ _ (off_is _ _ c.is_off.ensures c.if-is_off.true))
+
+pub look_operand-found-requires : goal.look_operand-found-requires
+look_operand-found-requires c = rw c.bytes_of.ensures.0 (aligned_fits c.args.width _ (on_is _ _ c.is_off.ensures c.if-is_off.false))
+
+pub returns-in_default : goal.returns-in_default
+unfolding rx storing
+returns-in_default c = rw (← c.operand_address-at.ensures) (operand_stop _ _ _ _ _ _ _ _ _ tt (on_is _ _ c.is_off.ensures c.if-is_off.false) _ (len_is _ _ _ _ _ _ _ c.look_operand-found.ensures c.bytes_of.ensures.0) _ _ _ (width_some c.args.width) c.refusal.ensures c.in_default.is)
+
+pub put_field-requires : goal.put_field-requires
+put_field-requires c = found_inside (c.args.mem.now) _ Store _ _ _ _ _ (len_is _ _ _ _ _ _ _ c.look_operand-found.ensures c.bytes_of.ensures.0) c.in-At.is (width_some c.args.width) (aligned_fits c.args.width _ (on_is _ _ c.is_off.ensures c.if-is_off.false))
+
+pub returns : goal.returns
+unfolding rx storing reg
+returns c = rw (← c.operand_address-at.ensures, ← c.reg.ensures, ← c.ahead_of.ensures) (operand_go _ _ _ _ _ _ _ _ _ tt (on_is _ _ c.is_off.ensures c.if-is_off.false) _ (len_is _ _ _ _ _ _ _ c.look_operand-found.ensures c.bytes_of.ensures.0) _ _ _ _ _ _ c.in-At.is (found_note (c.args.mem.now) _ Store _ _ _ _ _ (len_is _ _ _ _ _ _ _ c.look_operand-found.ensures c.bytes_of.ensures.0) c.in-At.is (width_some c.args.width) (aligned_fits c.args.width _ (on_is _ _ c.is_off.ensures c.if-is_off.false)) _ c.note.ensures) (stored _ _ _ _ _ _ _ _ _ (found_write (c.args.mem.now) _ _ _ _ _ _ (len_is _ _ _ _ _ _ _ c.look_operand-found.ensures c.bytes_of.ensures.0) c.in-At.is (width_some c.args.width) (aligned_fits c.args.width _ (on_is _ _ c.is_off.ensures c.if-is_off.false)) _ _ _ _ (found_note (c.args.mem.now) _ Store _ _ _ _ _ (len_is _ _ _ _ _ _ _ c.look_operand-found.ensures c.bytes_of.ensures.0) c.in-At.is (width_some c.args.width) (aligned_fits c.args.width _ (on_is _ _ c.is_off.ensures c.if-is_off.false)) _ c.note.ensures) c.put_field.ensures c.note_written.ensures) refl))

@@ -1,0 +1,18 @@
+use Rattle.pages.specs.declared.Access.TheVariants.{Load}
+use Rattle.actions.proofs.Executed.{byte_no, byte_yes}
+use Rattle.fields.proofs.Found.{byte_inside, byte_read}
+use Rattle.machine.specs.Si.{si}
+use Rattle.machine.specs.Prog.{interp}
+use mathlib.Core.Path.{◌∙◌}
+use Rattle.rx_si.proofs.si.compare.Goals as goal
+
+pub returns-in_default : goal.returns-in_default
+unfolding si
+returns-in_default c = rw (← c.operand_address-at.ensures) (byte_no _ _ _ _ _ tt _ _ _ c.look_up-found.ensures _ _ _ c.refusal.ensures c.in_default.is)
+
+pub byte_of-b-requires : goal.byte_of-b-requires
+byte_of-b-requires c = byte_inside (c.args.mem.now) _ Load _ _ _ _ c.look_up-found.ensures c.in-At.is
+
+pub returns : goal.returns
+unfolding si
+returns c = rw (← c.operand_address-at.ensures, ← c.ahead_of.ensures) (byte_yes _ _ _ _ _ tt _ _ _ c.look_up-found.ensures _ _ _ _ _ c.in-At.is c.note.ensures (unfold interp in rw (← (c.byte_of-b.ensures ∙ byte_read (c.args.mem.now) _ Load _ _ _ _ c.look_up-found.ensures c.in-At.is _ c.note.ensures), c.compare_bits.ensures, c.wide.ensures, c.wide-2.ensures)))
