@@ -17,4 +17,4 @@ returns-then-not-is_marked c = record {}
 
 pub returns : goal.returns
 unfolding word_of page_of
-returns c = marked_found _ _ _ c.is_marked.ensures (not-false _ c.if-not-is_marked.false) (omega (arith, c.type_inv.map (c.args.a / 4096))) _ _ _ refl _ c.look_whole.ensures
+returns c = marked_found _ _ _ c.is_marked.ensures c.if-not-is_marked.false (omega (arith, c.type_inv.map (c.args.a / 4096))) _ _ _ refl _ c.look_whole.ensures

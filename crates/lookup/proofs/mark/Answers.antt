@@ -13,7 +13,7 @@ returns-then-not-is_marked c = ap (set c.args.map.now (c.args.a / 4096)) c.with_
 
 pub returns-else-not-is_marked : goal.returns-else-not-is_marked
 unfolding word_of page_of
-returns-else-not-is_marked c = marks_there _ _ _ c.is_marked.ensures (not-false _ c.if-not-is_marked.false) (omega (arith, c.type_inv.map (c.args.a / 4096))) _ 0 _ refl
+returns-else-not-is_marked c = marks_there _ _ _ c.is_marked.ensures c.if-not-is_marked.false (omega (arith, c.type_inv.map (c.args.a / 4096))) _ 0 _ refl
 
 pub returns-else-page-map : goal.returns-else-page-map
 unfolding page_of

@@ -9,7 +9,7 @@ use Prim.Native.Nat.{◌/◌}
 use Rattle.lookup.proofs.note.Goals as goal
 
 pub overflow_add-map : goal.overflow_add-map
-overflow_add-map c = omega (arith, (c.type_inv.map) (c.args.a / 4096), c.if-w-eq0.true)
+overflow_add-map c = omega (arith, c.slice_known-1.given (c.args.a / 4096), c.if-w-eq0.true)
 
 pub returns-then-w-eq0 : goal.returns-then-w-eq0
 unfolding accessed_at word_of page_of

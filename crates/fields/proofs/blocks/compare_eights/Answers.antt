@@ -12,7 +12,7 @@ loop-left-smaller c = omega arith
 pub loop-left-preserved : goal.loop-left-preserved
 loop-left-preserved c = (
   c.loop-left.invariant.0
-      ∙ flat_compare_on 8 _ _ _ _ (c.is_eight.ensures.0 (not-false _ c.if-not-is_eight.false)) c.loop-left-test.true,
+      ∙ flat_compare_on 8 _ _ _ _ (c.is_eight.ensures.0 c.if-not-is_eight.false) c.loop-left-test.true,
   omega arith,
   omega arith,
 )
