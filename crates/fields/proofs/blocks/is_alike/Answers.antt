@@ -2,6 +2,7 @@ use Rattle.std.proofs.Common.{◌≡◌, ◌-◌, refl, ⊎_elim, arith, eq-eqb,
 use Rattle.fields.proofs.FlatLoops.{flat_compare_none}
 use Rattle.fields.proofs.Stretches.{alike_more, alike_fewer, alike_at}
 use Rattle.fields.proofs.blocks.is_alike.Goals as goal
+use Rattle.fields.proofs.blocks.is_alike.Goals.{then-most-d, else-most-d}
 
 pub loop-i-init : goal.loop-i-init
 loop-i-init c = (λ z. flat_compare_none _ _ _ 0 (omega arith), λ z. refl, omega arith)
@@ -12,12 +13,12 @@ loop-i-smaller c = omega arith
 pub loop-i-preserved : goal.loop-i-preserved
 loop-i-preserved c = (
   λ z. alike_more _ _ _ _
-      (c.loop-i.invariant.0 (⊎_elim (λ w. omega arith) (λ w. omega arith) c.if-most-d.branch))
-      (c.apart-d.ensures.0 (⊎_elim (λ w. omega arith) (λ w. omega arith) c.if-most-d.branch)),
+      (c.loop-i.invariant.0 (elim c.if-most-d.branch [ then-most-d w ↦ omega arith | else-most-d w ↦ omega arith ]))
+      (c.apart-d.ensures.0 (elim c.if-most-d.branch [ then-most-d w ↦ omega arith | else-most-d w ↦ omega arith ])),
   λ z.
       let p = c.loop-i.invariant.1 (alike_fewer _ _ _ _ _ z (omega arith)) in
       let q = c.apart-d.ensures.1 (alike_at _ _ _ _ z) in
-      ⊎_elim (λ w. omega arith) (λ w. omega arith) c.if-most-d.branch,
+      elim c.if-most-d.branch [ then-most-d w ↦ omega arith | else-most-d w ↦ omega arith ],
   omega arith,
 )
 

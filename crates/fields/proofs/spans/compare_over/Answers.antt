@@ -38,10 +38,10 @@ pub rest_of-requires-in-loop-i : goal.rest_of-requires-in-loop-i
 rest_of-requires-in-loop-i c = c.loop-i.invariant.1
 
 pub spot_of-requires : goal.spot_of-requires
-spot_of-requires c = omega (arith, spot_low _ _ _ _ _ _ c.loop-i.invariant.2 _ c.loop-i-test.true, c.before.before.before.before.before.before.before.before.before.before.before.before.before.before.before.before.before.before.before.before.before.before.before.well-formed.0.0)
+spot_of-requires c = omega (arith, spot_low _ _ _ _ _ _ c.loop-i.invariant.2 _ c.loop-i-test.true)
 
 pub spot_of-requires-in-loop-i : goal.spot_of-requires-in-loop-i
-spot_of-requires-in-loop-i c = omega (arith, spot_low _ _ _ _ _ _ c.loop-i.invariant.3 _ c.loop-i-test.true, c.before.before.before.before.before.before.before.before.before.before.before.before.before.before.before.before.before.before.before.before.before.before.before.before.well-formed.0.0)
+spot_of-requires-in-loop-i c = omega (arith, spot_low _ _ _ _ _ _ c.loop-i.invariant.3 _ c.loop-i-test.true)
 
 pub compare_flat-code-requires : goal.compare_flat-code-requires
 compare_flat-code-requires c = let e = step_is _ _ _ _ _ _ _ c.fewer_of-step.ensures c.rest_of.ensures c.rest_of-in-loop-i.ensures in (rw c.spot_of.ensures (first_room _ _ _ _ _ _ _ _ c.loop-i.invariant.2 c.loop-i.invariant.3 _ _ c.loop-i-test.true e), rw c.spot_of-in-loop-i.ensures (second_room _ _ _ _ _ _ _ _ c.loop-i.invariant.2 c.loop-i.invariant.3 _ _ c.loop-i-test.true e))

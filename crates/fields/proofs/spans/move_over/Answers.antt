@@ -37,10 +37,10 @@ pub rest_of-requires-in-loop-i : goal.rest_of-requires-in-loop-i
 rest_of-requires-in-loop-i c = c.loop-i.invariant.3
 
 pub spot_of-requires : goal.spot_of-requires
-spot_of-requires c = omega (arith, spot_low _ _ _ _ _ _ c.loop-i.invariant.4 _ c.loop-i-test.true, c.loop-i.invariant.1, c.before.before.before.before.before.before.before.before.before.before.before.before.before.before.before.before.before.before.before.before.before.before.before.before.well-formed.0.0)
+spot_of-requires c = omega (arith, spot_low _ _ _ _ _ _ c.loop-i.invariant.4 _ c.loop-i-test.true, c.loop-i.invariant.1)
 
 pub spot_of-requires-in-loop-i : goal.spot_of-requires-in-loop-i
-spot_of-requires-in-loop-i c = omega (arith, spot_low _ _ _ _ _ _ c.loop-i.invariant.5 _ c.loop-i-test.true, c.loop-i.invariant.1, c.before.before.before.before.before.before.before.before.before.before.before.before.before.before.before.before.before.before.before.before.before.before.before.before.before.well-formed.0.0)
+spot_of-requires-in-loop-i c = omega (arith, spot_low _ _ _ _ _ _ c.loop-i.invariant.5 _ c.loop-i-test.true, c.loop-i.invariant.1)
 
 pub move_flat-requires : goal.move_flat-requires
 move_flat-requires c = let e = step_is _ _ _ _ _ _ _ c.fewer_of-step.ensures c.rest_of.ensures c.rest_of-in-loop-i.ensures in (piece_some _ _ _ _ _ _ _ _ c.loop-i.invariant.4 c.loop-i.invariant.5 _ _ c.loop-i-test.true e, rw c.spot_of.ensures (first_room _ _ _ _ _ _ _ _ c.loop-i.invariant.4 c.loop-i.invariant.5 _ _ c.loop-i-test.true e), rw c.spot_of-in-loop-i.ensures (second_room _ _ _ _ _ _ _ _ c.loop-i.invariant.4 c.loop-i.invariant.5 _ _ c.loop-i-test.true e))
