@@ -23,19 +23,19 @@ pub returns-then-e-rest : goal.returns-then-e-rest
 returns-then-e-rest c = search read_unended
 
 pub shape_of-mem-in_default : goal.shape_of-mem-in_default
-shape_of-mem-in_default c = c.take_text-step.auto.regs ∙ c.loop-at.invariant.3
+shape_of-mem-in_default c = c.take_text-step.auto.mem ∙ c.loop-at.invariant.3
 
 pub shape_of-map-in_default : goal.shape_of-map-in_default
-shape_of-map-in_default c = c.take_text-step.auto.pages ∙ c.loop-at.invariant.4
+shape_of-map-in_default c = c.take_text-step.auto.map ∙ c.loop-at.invariant.4
 
 pub shape_of-regs-in_default : goal.shape_of-regs-in_default
-shape_of-regs-in_default c = c.take_text-step.auto.named ∙ c.loop-at.invariant.5
+shape_of-regs-in_default c = c.take_text-step.auto.regs ∙ c.loop-at.invariant.5
 
 pub shape_of-pages-in_default : goal.shape_of-pages-in_default
-shape_of-pages-in_default c = c.take_text-step.auto.1.1.1.1.1.0 ∙ c.loop-at.invariant.6
+shape_of-pages-in_default c = c.take_text-step.auto.pages ∙ c.loop-at.invariant.6
 
 pub shape_of-named-in_default : goal.shape_of-named-in_default
-shape_of-named-in_default c = c.take_text-step.auto.1.1.1.1.1.1.0 ∙ c.loop-at.invariant.7
+shape_of-named-in_default c = c.take_text-step.auto.named ∙ c.loop-at.invariant.7
 
 pub returns-in_default : goal.returns-in_default
 returns-in_default c = search read_off_lem
@@ -45,11 +45,11 @@ loop-at-preserved c = (
   search read_turn,
   search read_within,
   search rules,
-  c.take_text-step.auto.regs ∙ c.loop-at.invariant.3,
-  c.take_text-step.auto.pages ∙ c.loop-at.invariant.4,
-  c.take_text-step.auto.named ∙ c.loop-at.invariant.5,
-  c.take_text-step.auto.1.1.1.1.1.0 ∙ c.loop-at.invariant.6,
-  c.take_text-step.auto.1.1.1.1.1.1.0 ∙ c.loop-at.invariant.7,
+  c.take_text-step.auto.mem ∙ c.loop-at.invariant.3,
+  c.take_text-step.auto.map ∙ c.loop-at.invariant.4,
+  c.take_text-step.auto.regs ∙ c.loop-at.invariant.5,
+  c.take_text-step.auto.pages ∙ c.loop-at.invariant.6,
+  c.take_text-step.auto.named ∙ c.loop-at.invariant.7,
 )
 
 pub shape_of-mem-then-stage-eq4 : goal.shape_of-mem-then-stage-eq4
