@@ -1,5 +1,4 @@
 use borrow.Author.Rules.{rules}
-use Prim.Native.Nat.{◌-◌}
 use mathlib.Core.Path.{◌∙◌}
 use Rattle.reading.proofs.ReadLines.{read_good, read_missing, read_unended, read_off_lem, read_within, read_turn}
 use Rattle.reading.proofs.read_lines.Goals as goal

@@ -1,5 +1,4 @@
 use borrow.Author.Rules.{rules}
-use Prim.Native.Nat.{◌-◌}
 use Rattle.reading.proofs.SameText.{same_done, same_longer, same_shorter, same_differ, same_turn}
 use Rattle.reading.proofs.cut.equal.Goals as goal
 

@@ -1,5 +1,4 @@
 use borrow.Author.Rules.{rules}
-use Prim.Native.Nat.{◌-◌}
 use Rattle.reading.proofs.Cuts.{find_hit, find_turn, find_end}
 use Rattle.reading.proofs.cut.find.Goals as goal
 

@@ -1,5 +1,4 @@
 use borrow.Author.Rules.{rules}
-use Prim.Native.Nat.{◌-◌}
 use Rattle.reading.proofs.Numbers.{all_bad, all_turn, all_done}
 use Rattle.reading.proofs.digits.all_hex.Goals as goal
 

@@ -1,5 +1,4 @@
 use borrow.Author.Rules.{rules}
-use Prim.Native.Nat.{◌-◌}
 use Rattle.reading.proofs.Numbers.{number_bad, number_large, number_turn, number_done}
 use Rattle.reading.proofs.digits.number.Goals as goal
 

@@ -1,5 +1,4 @@
 use borrow.Author.Rules.{rules}
-use Prim.Native.Nat.{◌-◌}
 use Rattle.reading.proofs.Stores.{hex_first, hex_second, hex_rest, store_turn, store_done}
 use Rattle.reading.proofs.store.put_bytes.Goals as goal
 
