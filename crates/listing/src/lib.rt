@@ -1,7 +1,7 @@
 // A listing of code bytes, a line an instruction, into an output that the caller lends (document 02, E1).
 //
-// A reader walks the code and keeps its place in it. The borrow checker covers no function over a struct that holds a reference, so
-// the functions over it are few and thin, and proved by hand; the work is in `list_from`, which takes the slice and the place.
+// A reader walks the code and keeps its place in it. The functions over it are few and thin; the work is in `list_from`, which takes
+// the slice and the place.
 #![tactic(auto)]
 
 ghost use Rattle.std.specs.Prelude.{◌≡◌};

@@ -1,5 +1,4 @@
 use mathlib.Core.Path.{sym, ◌∙◌}
-use Prim.Native.Nat.{◌-◌}
 use borrow.Author.Rules.{rules}
 use Rattle.listing.proofs.Turns.{begins, ends, end_within, end_further, few_bytes, turn_none, turn_some, turn_within}
 use Rattle.listing.proofs.list_from.Goals as goal

@@ -1,6 +1,5 @@
 use mathlib.Core.Path.{sym, ap, ◌∙◌}
 use Rattle.decode.proofs.Grid.{name_in_cell}
-use Prim.Native.Nat.{◌-◌}
 use Rattle.decode.specs.Names.{name_in}
 use Rattle.printing.specs.Writing.{wrote}
 use Rattle.listing.proofs.Loops.{name_dot, name_turn, name_end}

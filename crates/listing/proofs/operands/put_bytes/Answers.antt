@@ -1,5 +1,4 @@
 use mathlib.Core.Path.{refl}
-use Prim.Native.Nat.{◌-◌}
 use Rattle.listing.proofs.Loops.{bytes_turn, bytes_end}
 use borrow.Author.Rules.{rules}
 use Rattle.listing.proofs.operands.put_bytes.Goals as goal
