@@ -31,7 +31,7 @@ pub loop-left-smaller : goal.loop-left-smaller
 loop-left-smaller c = let p = piece _ _ _ _ _ c.loop-left.invariant.3 c.loop-left.invariant.4 c.loop-left-test.true _ _ _ (sym c.look_up-found.ensures ∙ c.in-At.is) c.fewer_of-n.ensures in less p.0 p.1
 
 pub loop-left-preserved : goal.loop-left-preserved
-loop-left-preserved c = let e = sym c.look_up-found.ensures ∙ c.in-At.is in let p = piece _ _ _ _ _ c.loop-left.invariant.3 c.loop-left.invariant.4 c.loop-left-test.true _ _ _ e c.fewer_of-n.ensures in let o = piece_on _ _ _ _ _ c.loop-left.invariant.3 c.loop-left.invariant.4 c.loop-left-test.true _ _ _ e c.fewer_of-n.ensures in (rw (c.reg_past-r.ensures, c.past_of-a.ensures) (c.loop-left.invariant.0 ∙ spill_on _ _ _ _ _ e _ _ _ _ _ _ _ refl p.0 p.1 p.2 c.spill_at.ensures c.note_written.ensures), c.spill_at.auto.1.0 ∙ c.loop-left.invariant.1, c.note_written.auto.map ∙ c.loop-left.invariant.2, rw c.past_of-a.ensures o.0, rw c.past_of-a.ensures (written_clear _ _ _ _ _ o.1 _ c.note_written.ensures _ c.spill_at.auto.1.0))
+loop-left-preserved c = let e = sym c.look_up-found.ensures ∙ c.in-At.is in let p = piece _ _ _ _ _ c.loop-left.invariant.3 c.loop-left.invariant.4 c.loop-left-test.true _ _ _ e c.fewer_of-n.ensures in let o = piece_on _ _ _ _ _ c.loop-left.invariant.3 c.loop-left.invariant.4 c.loop-left-test.true _ _ _ e c.fewer_of-n.ensures in (rw (c.reg_past-r.ensures, c.past_of-a.ensures) (c.loop-left.invariant.0 ∙ spill_on _ _ _ _ _ e _ _ _ _ _ _ _ refl p.0 p.1 p.2 c.spill_at.ensures c.note_written.ensures), c.spill_at.auto.mem ∙ c.loop-left.invariant.1, c.note_written.auto.map ∙ c.loop-left.invariant.2, rw c.past_of-a.ensures o.0, rw c.past_of-a.ensures (written_clear _ _ _ _ _ o.1 _ c.note_written.ensures _ c.spill_at.auto.mem))
 
 pub shape_of-mem : goal.shape_of-mem
 shape_of-mem c = c.loop-left.invariant.1
