@@ -16,7 +16,7 @@ pub returns-in_default-here : goal.returns-in_default-here
 returns-in_default-here c = moved_not c.args.p _ c.undone-in_default-here.ensures _ _ _ _ _ _ _ refl refl
 
 pub are_apart-requires : goal.are_apart-requires
-are_apart-requires c = omega (arith, marked_room _ _ _ _ _ _ _ (marked_is _ c.args.map.now (length c.args.mem.now) Load c.address-from.result _ _ c.look_marked-here.ensures c.in-At-here.is) c.if-n-more.true, c.before.before.before.before.before.before.before.before.before.before.before.before.before.before.before.before.before.before.before.before.before.before.before.well-formed.1.0.0)
+are_apart-requires c = omega (arith, marked_room _ _ _ _ _ _ _ (marked_is _ c.args.map.now (length c.args.mem.now) Load c.address-from.result _ _ c.look_marked-here.ensures c.in-At-here.is) c.if-n-more.true)
 
 pub move_short-requires : goal.move_short-requires
 move_short-requires c = (omega arith, c.if-n-le32.true, sym c.are_apart.ensures ∙ c.if-are_apart.true, marked_room _ _ _ _ _ _ _ (marked_is _ c.args.map.now (length c.args.mem.now) Store c.address-to.result _ _ c.look_marked-there.ensures c.in-At.is) c.if-n-room.true, marked_room _ _ _ _ _ _ _ (marked_is _ c.args.map.now (length c.args.mem.now) Load c.address-from.result _ _ c.look_marked-here.ensures c.in-At-here.is) c.if-n-more.true)
