@@ -79,32 +79,24 @@ read x = read_off x.mem x.map x.regs x.reply
 
 module _ (mem map regs reply mem' map' regs' reply' : List ℕ) (n : ℕ) where
   pub step_meets : crossed n mem' map' regs' reply' ≡ step_crossed mem map regs reply
-      → (crossed n mem' map' regs' reply' ≡ step_crossed mem map regs reply)
-      × (length reply ≡ 6 → StepMeets (lent mem map regs reply) (read_off mem' map' regs' reply'))
-  step_meets e = (
-    e,
-    λ h.
-        let o : read_off mem' map' regs' reply' ≡ step_outcome (lent mem map regs reply) =
-        ap read e ∙ unfold step_crossed in rw (eq-eqb (length reply) 6 h) in
-        record {
-          clean = step_clean (lent mem map regs reply) (read_off mem' map' regs' reply') o;
-          pages = step_pages (lent mem map regs reply) (read_off mem' map' regs' reply') o;
-        },
-  )
+      → length reply ≡ 6 → StepMeets (lent mem map regs reply) (read_off mem' map' regs' reply')
+  step_meets e h =
+      let o : read_off mem' map' regs' reply' ≡ step_outcome (lent mem map regs reply) =
+      ap read e ∙ unfold step_crossed in rw (eq-eqb (length reply) 6 h) in
+      record {
+        clean = step_clean (lent mem map regs reply) (read_off mem' map' regs' reply') o;
+        pages = step_pages (lent mem map regs reply) (read_off mem' map' regs' reply') o;
+      }
 
   pub run_meets : (budget : ℕ) → crossed n mem' map' regs' reply' ≡ run_crossed budget mem map regs reply
-      → (crossed n mem' map' regs' reply' ≡ run_crossed budget mem map regs reply)
-      × (length reply ≡ 6 → RunMeets budget (lent mem map regs reply) (read_off mem' map' regs' reply'))
-  run_meets budget e = (
-    e,
-    λ h.
-        let o : read_off mem' map' regs' reply' ≡ run_outcome budget (lent mem map regs reply) =
-        ap read e ∙ unfold run_crossed in rw (eq-eqb (length reply) 6 h) in
-        record {
-          clean = run_clean budget (lent mem map regs reply) (read_off mem' map' regs' reply') o;
-          pages = run_pages budget (lent mem map regs reply) (read_off mem' map' regs' reply') o;
-        },
-  )
+      → length reply ≡ 6 → RunMeets budget (lent mem map regs reply) (read_off mem' map' regs' reply')
+  run_meets budget e h =
+      let o : read_off mem' map' regs' reply' ≡ run_outcome budget (lent mem map regs reply) =
+      ap read e ∙ unfold run_crossed in rw (eq-eqb (length reply) 6 h) in
+      record {
+        clean = run_clean budget (lent mem map regs reply) (read_off mem' map' regs' reply') o;
+        pages = run_pages budget (lent mem map regs reply) (read_off mem' map' regs' reply') o;
+      }
 
 module _ (sheet room : List ℕ) where
   pub room_away : (length room ≡ 8192 → ⊥) → record { bytes = room; len = 0 } ≡ sheet_crossed sheet room
@@ -138,18 +130,14 @@ module _ (sheet room : List ℕ) where
 
   -- a good sheet's answer is the text of its run's outcome; so demands 1 and 3 hold of what it tells
   pub sheet_meets : (room' : List ℕ) (n : ℕ) → record { bytes = room'; len = n } ≡ sheet_crossed sheet room
-      → (record { bytes = room'; len = n } ≡ sheet_crossed sheet room)
-      × (length room ≡ 8192 → (h : Setting) → reading_of sheet ≡ good h → SheetMeets h (record { bytes = room'; len = n }))
-  sheet_meets room' n e = (
-    e,
-    λ l h g.
-        let o : Outcome = run_outcome h.budget (machine_of h) in
-        record {
-          from = o;
-          meets = record { clean = run_clean h.budget (machine_of h) o refl; pages = run_pages h.budget (machine_of h) o refl };
-          text = e ∙ told l ∙ ap text_of (answered h g);
-        },
-  )
+      → length room ≡ 8192 → (h : Setting) → reading_of sheet ≡ good h → SheetMeets h (record { bytes = room'; len = n })
+  sheet_meets room' n e l h g =
+      let o : Outcome = run_outcome h.budget (machine_of h) in
+      record {
+        from = o;
+        meets = record { clean = run_clean h.budget (machine_of h) o refl; pages = run_pages h.budget (machine_of h) o refl };
+        text = e ∙ told l ∙ ap text_of (answered h g);
+      }
     where
       told : length room ≡ 8192 → sheet_crossed sheet room ≡ text_of (answer_of sheet)
       told l = unfold sheet_crossed in rw (eq-eqb (length room) 8192 l)
