@@ -4,7 +4,7 @@ use mathlib.Core.Path.{◌≡◌, refl, sym, ◌∙◌, ap}
 use mathlib.Core.List.{List, [], ◌∷◌}
 use borrow.Author.Tests.{ne_eqb}
 use Rattle.code.specs.declared.Found.{Found}
-use Rattle.code.specs.declared.Found.TheVariants.{Known, Unknown}
+use Rattle.code.specs.declared.Found.TheVariants.{Unknown}
 use Rattle.code.specs.Table.{Row, table, find, action_of}
 
 -- what holds at a code holds of an operation with that code

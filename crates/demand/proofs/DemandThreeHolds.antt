@@ -1,7 +1,6 @@
 -- Demand 3's statements, proved: once for a run and a step, from what the two stores' laws say of each.
 use Prim.Native.Nat.{ℕ}
-use mathlib.Core.Path.{◌≡◌, refl, sym, ◌∙◌, ap, subst}
-use mathlib.Core.Logic.{◌≢◌}
+use mathlib.Core.Path.{◌≡◌, refl, sym, ap, subst}
 use mathlib.Core.Bool.{Bool, true, false}
 use lib.Dec.{leb}
 use lib.ListN.{length, get_or}
@@ -11,10 +10,10 @@ use Rattle.machine.specs.Prog.{interp}
 use Rattle.machine.specs.Run.{Result, one, run}
 use Rattle.machine.specs.Cpu.{Cpu}
 use Rattle.machine.specs.Step.{step}
-use Rattle.machine.specs.Machine.{Given, Outcome, proper, turned_away, cpu_in, store_in, outcome_of, ops_for, step_outcome, run_outcome}
+use Rattle.machine.specs.Machine.{Given, proper, turned_away, cpu_in, store_in, outcome_of, ops_for, step_outcome, run_outcome}
 use Rattle.demand.specs.Plain.{Plain, plain, plain_step, plain_run, shown}
 use Rattle.demand.specs.Premise.{Premise}
-use Rattle.demand.specs.DemandThree.{SamePages, Agrees, Unwritable, SameLayout, PagesKeep, RunsKeepPages, StepsKeepPages}
+use Rattle.demand.specs.DemandThree.{SamePages, Agrees, Unwritable, PagesKeep, RunsKeepPages, StepsKeepPages}
 use Rattle.demand.proofs.AlikeStores.{Alike, agree, one_alike, runs_alike}
 use Rattle.demand.proofs.FramedAsPlain.{Same, ties, premise_twins}
 use Rattle.demand.proofs.KeptByRuns.{Keeps, run_keeps, step_keeps, Laid, layout_kept, byte_kept}

@@ -1,6 +1,6 @@
 -- A halfword on its boundary, in a memory of an even number of bytes: where its first byte is found, the look-up reaches the second, in the
 -- same page. So a halfword is fetched whole or refused at its own address.
-use Prim.Native.Nat.{ℕ, ◌+◌, ◌-◌, ◌*◌, ◌%◌, ◌<◌, ◌≤◌}
+use Prim.Native.Nat.{ℕ, ◌+◌, ◌-◌, ◌*◌, ◌%◌, ◌<◌}
 use native.Mathlib.Omega.{arith}
 use mathlib.Core.Path.{◌≡◌, sym, ◌∙◌, ap, subst}
 use mathlib.Core.Bool.{Bool, true, false}

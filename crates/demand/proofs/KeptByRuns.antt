@@ -15,7 +15,7 @@ use Rattle.words.specs.Pick.{pick}
 use Rattle.pages.specs.Word.{real, page_of, disp_of, word_of, Writable, accessed, written}
 use Rattle.pages.specs.Tests.{Verdict, fine, bad, tests}
 use Rattle.pages.specs.Look.{reach, look_of, test_seven}
-use Rattle.pages.specs.Framed.{Framed, framed_of, noted, accessed_at, written_at, write_at, write_byte}
+use Rattle.pages.specs.Framed.{Framed, framed_of, accessed_at, written_at, write_at, write_byte}
 use Rattle.machine.specs.Prog.{Prog, Ops, interp}
 use Rattle.machine.specs.Run.{one, run}
 use Rattle.machine.specs.Store.{framed}

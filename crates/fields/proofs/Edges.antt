@@ -1,5 +1,5 @@
 -- A move of which one field goes on into a second page, where no page lacks its marks: what moving it in two pieces comes to.
-use Rattle.std.proofs.Common.{◌≡◌, ℕ, zero, suc, ◌+◌, ◌-◌, ◌%◌, ◌<◌, ◌≤◌, true, false, List, length, get_or, set, sym, refl, ap, ◌∙◌, true≢false, zero-add, arith, length-set, le-ltb, lt-ltb}
+use Rattle.std.proofs.Common.{◌≡◌, ℕ, zero, suc, ◌+◌, ◌-◌, ◌%◌, ◌<◌, ◌≤◌, false, List, length, get_or, set, sym, refl, ap, ◌∙◌, true≢false, zero-add, arith, length-set, le-ltb, lt-ltb}
 use Rattle.pages.specs.declared.Access.{Access}
 use Rattle.pages.specs.declared.Access.TheVariants.{Fetch, Load, Store}
 use Rattle.pages.specs.declared.Look.{Look}

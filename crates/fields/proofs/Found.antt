@@ -1,5 +1,5 @@
 -- An operand that was looked up: the first look-up reached its end, so it is read and written where it was found.
-use Rattle.std.proofs.Common.{◌≡◌, ℕ, zero, suc, ◌+◌, ◌-◌, ◌*◌, ◌/◌, ◌%◌, ◌<◌, ◌≤◌, Bool, true, false, not, eqb, List, length, get_or, set, sym, refl, ap, ◌∙◌, add-zero, arith, eq-eqb, eqb-true}
+use Rattle.std.proofs.Common.{◌≡◌, ℕ, zero, suc, ◌+◌, ◌-◌, ◌%◌, ◌<◌, ◌≤◌, Bool, true, false, not, eqb, List, length, get_or, set, sym, refl, ap, ◌∙◌, add-zero, arith, eq-eqb, eqb-true}
 use native.Mathlib.Decide.{dec_lt}
 use Rattle.pages.specs.declared.Access.{Access}
 use Rattle.pages.specs.declared.Access.TheVariants.{Load, Store}
@@ -10,7 +10,7 @@ use Rattle.pages.specs.declared.Look.TheVariants.{At, Refused}
 use Rattle.pages.specs.Word.{page_of, next, accessed}
 use Rattle.pages.specs.Tests.{fine}
 use Rattle.pages.specs.Look.{look_of, verdict_of}
-use Rattle.pages.specs.Framed.{Framed, framed_of, accessed_at, written_at, read_byte, write_byte, read_at, write_at}
+use Rattle.pages.specs.Framed.{framed_of, accessed_at, written_at, read_byte, write_byte, read_at, write_at}
 use Rattle.pages.proofs.LookLaws.{found_less, any_load}
 use Rattle.pages.proofs.ReachLaws.{reach_below, reach_inside, reach_largest, reach_some, reach_end}
 use Rattle.pages.proofs.Marks.{accessed_quiet, look_quiet}
@@ -19,7 +19,7 @@ use Rattle.code.specs.declared.Width.TheVariants.{Word, Half, Byte}
 use Rattle.machine.specs.Fields.{bytes_of}
 use Rattle.fields.specs.Direct.{or_else, look_field, look_one, note_field, read_field, write_field, flat, flat_put}
 use Rattle.fields.proofs.MarkedOnce.{note_once}
-use Rattle.fields.proofs.Reached.{reach_one, reach_on, reach_read, reach_put}
+use Rattle.fields.proofs.Reached.{reach_on, reach_read, reach_put}
 
 -- marks are not seen
 pub note_blind : (map : List ℕ) (b m n : ℕ) (acc : Access) (a : ℕ) → look_of (note_field map b m) n acc a ≡ look_of map n acc a

@@ -1,5 +1,5 @@
 -- A word is four bytes, a halfword two: read and written.
-use Rattle.std.proofs.Common.{◌≡◌, ℕ, ◌+◌, ◌*◌, ◌/◌, ◌%◌, ◌^◌, ◌<◌, ◌≤◌, false, not, eqb, List, get_or, set, sym, refl, ap, ◌∙◌, arith}
+use Rattle.std.proofs.Common.{◌≡◌, ℕ, ◌+◌, ◌*◌, ◌/◌, ◌%◌, ◌^◌, ◌<◌, ◌≤◌, false, not, eqb, List, get_or, set, sym, ap, ◌∙◌, arith}
 use Rattle.code.specs.declared.Width.{Width}
 use Rattle.machine.specs.Fields.{bytes_of}
 use Rattle.pages.specs.Word.{next}

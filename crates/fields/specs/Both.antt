@@ -1,6 +1,6 @@
 -- The two fields of a move or a compare, n bytes each: every byte of both is looked up, first field, then second; only then are they
 -- marked, and moved or compared. A refusal alters nothing.
-use Rattle.std.specs.Prelude.{ℕ, List, [], ◌∷◌, length}
+use Rattle.std.specs.Prelude.{ℕ, List, [], ◌∷◌}
 use Rattle.pages.specs.declared.Access.{Access}
 use Rattle.pages.specs.declared.Access.TheVariants.{Load}
 use Rattle.pages.specs.declared.Look.{Look}

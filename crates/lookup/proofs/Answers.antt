@@ -1,19 +1,19 @@
 -- The look-up, an answer at a time, in the terms that the code has in hand where it gives that answer.
 use Prim.Native.Nat.{ℕ, ◌+◌, ◌-◌, ◌*◌, ◌/◌, ◌%◌, ◌<◌, ◌≤◌}
 use native.Mathlib.Omega.{arith}
-use mathlib.Core.Path.{◌≡◌, refl, sym, ◌∙◌, ap}
+use mathlib.Core.Path.{◌≡◌, refl, sym, ◌∙◌}
 use mathlib.Core.Bool.{Bool, true, false}
 use mathlib.Core.List.{List}
-use borrow.Author.Tests.{eqb-false, ltb-false, lt-ltb, le-ltb, le-leb, lt-leb, eq-eqb, ne_eqb}
+use borrow.Author.Tests.{lt-ltb, le-ltb, le-leb, lt-leb, eq-eqb, ne_eqb}
 use lib.Dec.{eqb, leb, ltb}
 use Rattle.words.specs.Pick.{pick, both, either}
 use Rattle.pages.specs.declared.Access.{Access}
 use Rattle.pages.specs.declared.Cause.{Cause}
 use Rattle.pages.specs.declared.Cause.TheVariants.{Addressing, PagingQueue, PagingError}
 use Rattle.pages.specs.declared.Look.TheVariants.{At, Refused}
-use Rattle.pages.specs.Word.{bit_u, bit_s, bit_e, bit_m, bit_h, bits_x, frame, page_of, disp_of, base, size, real, word_of}
+use Rattle.pages.specs.Word.{bit_u, bit_s, bit_e, bit_m, bits_x, frame, page_of, disp_of, base, size, real, word_of}
 use Rattle.pages.specs.Tests.{Verdict, fine, bad, is_store, tests, six_tests}
-use Rattle.pages.specs.Look.{fewer, reach, look_of, test_seven}
+use Rattle.pages.specs.Look.{fewer, reach, look_of}
 use Rattle.pages.proofs.LookLaws.{disp_small, test_four}
 use Rattle.lookup.specs.Barred.{barred, cause_of}
 

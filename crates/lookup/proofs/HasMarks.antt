@@ -4,18 +4,18 @@ use native.Mathlib.Omega.{arith}
 use mathlib.Core.Path.{◌≡◌, refl, sym, ◌∙◌, ap}
 use mathlib.Core.Bool.{Bool, true, false}
 use mathlib.Core.List.{List}
-use borrow.Author.Tests.{eqb-true, leb-true, le-ltb, eq-eqb, ne_eqb}
-use lib.Dec.{eqb, leb, ltb}
+use borrow.Author.Tests.{eqb-true, leb-true, le-ltb}
+use lib.Dec.{eqb, leb}
 use lib.ListN.{length, get_or, set}
 use lib.Seq.{get_or-set_same, set_out, set-set}
-use Rattle.words.specs.Pick.{pick, both}
+use Rattle.words.specs.Pick.{pick}
 use Rattle.words.proofs.Tests.{left_of_lem, right_of_lem}
 use Rattle.pages.specs.declared.Access.{Access}
 use Rattle.pages.specs.declared.Look.{Look}
 use Rattle.pages.specs.declared.Look.TheVariants.{At, Refused}
 use Rattle.pages.specs.Word.{bit_g, page_of, word_of, accessed, written}
 use Rattle.pages.specs.Tests.{is_store}
-use Rattle.pages.specs.Look.{fewer, look_of}
+use Rattle.pages.specs.Look.{fewer}
 use Rattle.pages.specs.Framed.{accessed_at, written_at}
 use Rattle.pages.proofs.Marks.{accessed_old, written_old}
 use Rattle.lookup.specs.Marked.{marked, with_marks, marks_of, WholeLook, MarkedLook}

@@ -1,5 +1,5 @@
 -- The state: sixteen registers of 32 bits, the program counter of 24, the condition code, the program mask.
-use Rattle.std.specs.Prelude.{ℕ, ◌+◌, ◌*◌, ◌/◌, ◌%◌, Bool, List, eqb, get_or, set}
+use Rattle.std.specs.Prelude.{ℕ, ◌+◌, ◌%◌, List, eqb, get_or, set}
 use Rattle.words.specs.Pick.{pick}
 use Rattle.words.specs.declared.Res.{Res}
 

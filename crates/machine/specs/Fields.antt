@@ -7,7 +7,7 @@ use Rattle.pages.specs.declared.Access.TheVariants.{Fetch, Load, Store}
 use Rattle.pages.specs.Word.{next}
 use Rattle.code.specs.declared.Width.{Width}
 use Rattle.code.specs.declared.Width.TheVariants.{Word, Half, Byte}
-use Rattle.machine.specs.Prog.{Prog, done, fail, look, get, put}
+use Rattle.machine.specs.Prog.{Prog, fail, look, get, put}
 
 -- look n bytes up, from a onward
 unfoldable pub looks : {R : Type 0} → Access → ℕ → ℕ → Prog R → Prog R

@@ -1,5 +1,5 @@
 -- Actions of the RR format: no storage.
-use Rattle.std.specs.Prelude.{ℕ, ltb}
+use Rattle.std.specs.Prelude.{ltb}
 use Rattle.words.specs.Combine.{combine_of}
 use Rattle.words.specs.Wide.{pair_of}
 use Rattle.code.specs.declared.RrFields.{RrFields}

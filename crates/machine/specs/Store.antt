@@ -1,5 +1,4 @@
 -- The framed store's operations.
-use Rattle.std.specs.Prelude.{ℕ}
 use Rattle.pages.specs.Look.{verdict_of}
 use Rattle.pages.specs.Framed.{Framed, look_in, noted, read_byte, write_byte}
 use Rattle.machine.specs.Prog.{Ops}

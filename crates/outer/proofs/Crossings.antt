@@ -1,7 +1,7 @@
 -- What crosses, from what the engine and the bench answered.
 use Prim.Native.Nat.{ℕ, ◌+◌, ◌≤◌, ◌<◌}
 use native.Mathlib.Omega.{arith}
-use mathlib.Core.Path.{◌≡◌, refl, sym, ◌∙◌, ap}
+use mathlib.Core.Path.{◌≡◌, refl, ◌∙◌, ap}
 use mathlib.Core.List.{List, [], ◌∷◌, ◌++◌, append-nil}
 use borrow.Author.Tests.{eq-eqb, ne_eqb}
 use lib.Dec.{eqb}
@@ -16,7 +16,7 @@ use Rattle.printing.specs.Answer.{text_of}
 use Rattle.printing.specs.Writing.{Spot, spot, wrote}
 use Rattle.printing.proofs.WrittenText.{wrote_sets}
 use Rattle.reading.specs.Setting.{Setting}
-use Rattle.reading.specs.Sheet.{Reading, good, reading_of}
+use Rattle.reading.specs.Sheet.{good, reading_of}
 use Rattle.sheet.specs.Sheet.{machine_of, printed, answer_to, answer_of}
 use Rattle.outer.specs.Crossing.{Crossed, crossed, six, lent, handed_back, read_off, step_crossed, StepMeets, run_crossed, RunMeets, sheet_crossed, SheetMeets}
 

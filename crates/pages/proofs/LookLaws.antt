@@ -10,7 +10,7 @@ use Rattle.words.specs.Pick.{pick, both}
 use Rattle.pages.specs.declared.Access.{Access}
 use Rattle.pages.specs.declared.Access.TheVariants.{Load}
 use Rattle.pages.specs.declared.Cause.{Cause}
-use Rattle.pages.specs.declared.Cause.TheVariants.{Addressing, PagingQueue, PagingError}
+use Rattle.pages.specs.declared.Cause.TheVariants.{Addressing}
 use Rattle.pages.specs.declared.Look.{Look}
 use Rattle.pages.specs.declared.Look.TheVariants.{At, Refused}
 use Rattle.pages.specs.Word.{bit_u, bit_s, bit_e, bit_m, bit_h, bits_x, frame, page_of, disp_of, base, size, real, word_of}

@@ -1,6 +1,6 @@
 -- Reading and storing a byte, an answer at a time.
-use Prim.Native.Nat.{ℕ, ◌<◌, ◌≤◌}
-use mathlib.Core.Path.{◌≡◌, refl, sym, ◌∙◌, ap}
+use Prim.Native.Nat.{ℕ}
+use mathlib.Core.Path.{◌≡◌}
 use mathlib.Core.List.{List}
 use lib.ListN.{length, get_or, set}
 use Rattle.pages.specs.declared.Access.TheVariants.{Load, Store}
@@ -8,7 +8,7 @@ use Rattle.pages.specs.declared.Cause.{Cause}
 use Rattle.pages.specs.declared.Look.{Look}
 use Rattle.pages.specs.declared.Look.TheVariants.{At, Refused}
 use Rattle.pages.specs.Look.{look_of}
-use Rattle.pages.specs.Framed.{framed_of, written_at, read_byte, write_byte, read_at, write_at}
+use Rattle.pages.specs.Framed.{framed_of, written_at, read_byte, write_byte}
 
 module _ (mem map : List ℕ) (a : ℕ) (found : Look) where
   module _ (e : found ≡ look_of map (length mem) Load a) where

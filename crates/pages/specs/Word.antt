@@ -1,5 +1,5 @@
 -- A page and its word (document 01, "A page and its word"): from the leftmost bit, W, G, U, S, E, M, H, three X bits, six frame bits.
-use Rattle.std.specs.Prelude.{ℕ, ◌+◌, ◌*◌, ◌/◌, ◌%◌, ◌<◌, ◌≡◌, List, eqb, get_or, set}
+use Rattle.std.specs.Prelude.{ℕ, ◌+◌, ◌*◌, ◌/◌, ◌%◌, ◌≡◌, List, eqb, get_or}
 use Rattle.words.specs.Pick.{pick, both}
 
 -- W written into, G accessed, U usable, S nonprivileged page, E not to be written, M a 2,048-byte page, H the upper half

@@ -12,7 +12,7 @@ use Rattle.pages.specs.declared.Look.{Look}
 use Rattle.pages.specs.declared.Look.TheVariants.{At, Refused}
 use Rattle.pages.specs.Word.{page_of, written}
 use Rattle.pages.specs.Look.{fewer, look_of}
-use Rattle.pages.specs.Framed.{Framed, framed_of, written_at}
+use Rattle.pages.specs.Framed.{framed_of, written_at}
 use Rattle.pages.proofs.ReachLaws.{reach_behind, reach_below, reach_fits, reach_inside, reach_page}
 use Rattle.pages.proofs.Marks.{written_quiet, look_quiet, written_again}
 use Rattle.machine.specs.Rs.{next_reg, next_word}

@@ -1,7 +1,7 @@
 -- Registers and words, one after the other: a turn at a time, and in two parts.
 use Prim.Native.Nat.{ℕ, zero, suc, ◌+◌, ◌-◌, ◌*◌, ◌%◌, ◌<◌, ◌≤◌}
 use native.Mathlib.Omega.{arith}
-use mathlib.Core.Path.{◌≡◌, refl, ◌∙◌}
+use mathlib.Core.Path.{◌≡◌, ◌∙◌}
 use Rattle.machine.specs.Rs.{next_reg, next_word}
 use Rattle.fields.proofs.ByteLoops.{pred_suc}
 use Rattle.rs_ss.specs.Multiple.{words}

@@ -1,9 +1,9 @@
 -- A sheet's answer, by what the reader found.
 use Prim.Native.Nat.{ℕ}
-use mathlib.Core.Path.{◌≡◌, refl, sym, ◌∙◌, ap}
+use mathlib.Core.Path.{◌≡◌, ◌∙◌, ap}
 use mathlib.Core.List.{List}
 use lib.ListN.{replicate}
-use Rattle.reading.specs.Sheet.{Reading, reading_of, read_onto}
+use Rattle.reading.specs.Sheet.{reading_of, read_onto}
 use Rattle.reading.specs.Answered.{as_reading}
 use Rattle.reading.specs.declared.Reading as Read
 use Rattle.reading.specs.declared.Reading.TheVariants.{Bad, Good}
@@ -13,7 +13,7 @@ use Rattle.printing.specs.Lines.{bad_line}
 use Rattle.printing.specs.Answer.{answer_text, text_of}
 use Rattle.machine.specs.declared.Reply.{Reply}
 use Rattle.machine.specs.Machine.{Outcome, given, outcome, run_outcome}
-use Rattle.sheet.specs.Sheet.{answer_of, answer_to, printed}
+use Rattle.sheet.specs.Sheet.{answer_of, printed}
 
 module _ (sheet mem map regs : List ℕ) (r : Read.Reading) (e : as_reading r mem map regs ≡ read_onto (replicate 65536 0) (replicate 512 0) (replicate 16 0) sheet) where
   pub bad_answer : (n : ℕ) (t : Text) → r ≡ Bad n → t ≡ text_of (bad_line n) → t ≡ text_of (answer_of sheet)

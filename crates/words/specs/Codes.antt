@@ -1,5 +1,5 @@
 -- The condition codes of document 01, "Rules that catch people".
-use Rattle.std.specs.Prelude.{Bool, ℕ, ◌/◌, eqb, ltb, ℤ, pos}
+use Rattle.std.specs.Prelude.{ℕ, eqb, ltb, ℤ, pos}
 use Rattle.std.specs.Int.Bits.{bit_and}
 use Rattle.std.specs.Int.Signed.{lt_z}
 use Rattle.words.specs.Pick.{pick}

@@ -1,4 +1,4 @@
-use Rattle.std.proofs.Common.{◌-◌, sym, refl, ap, ◌∙◌, arith}
+use Rattle.std.proofs.Common.{sym, refl, ap, ◌∙◌, arith}
 use Rattle.pages.proofs.ReachLaws.{reach_some}
 use Rattle.fields.specs.Direct.{look_fields}
 use Rattle.fields.proofs.ByteLoops.{look_stop, look_none, fields_next, fields_end}

@@ -1,4 +1,4 @@
-use Rattle.std.proofs.Common.{◌-◌, sym, refl, ◌∙◌}
+use Rattle.std.proofs.Common.{sym, refl, ◌∙◌}
 use Rattle.fields.proofs.ByteLoops.{note_none}
 use Rattle.fields.proofs.MarkedOnce.{note_on, page_some}
 use Rattle.fields.proofs.Pieces.{piece_within, piece_reached, piece_some, piece_less}

@@ -1,4 +1,4 @@
-use Rattle.std.proofs.Common.{◌≡◌, ◌-◌, length}
+use Rattle.std.proofs.Common.{◌≡◌, length}
 use Rattle.fields.specs.Direct.{note_field}
 use Rattle.fields.proofs.note_field.Given as goal
 

@@ -1,7 +1,6 @@
 use Prim.Native.Nat.{◌/◌}
 use mathlib.Core.Path.{refl}
 use native.Mathlib.Omega.{arith}
-use borrow.Author.Tests.{not-false}
 use Rattle.pages.specs.Word.{word_of, page_of}
 use Rattle.lookup.specs.Marked.{MarkedLook}
 use Rattle.lookup.proofs.HasMarks.{marked_found}

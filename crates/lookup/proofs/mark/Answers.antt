@@ -2,7 +2,6 @@ use Prim.Native.Nat.{◌/◌}
 use lib.ListN.{set}
 use mathlib.Core.Path.{refl, ap, ◌∙◌}
 use native.Mathlib.Omega.{arith}
-use borrow.Author.Tests.{not-false}
 use Rattle.pages.specs.Word.{word_of, page_of}
 use Rattle.lookup.proofs.HasMarks.{marks_set, marks_there, marks_out}
 use Rattle.lookup.proofs.mark.Goals as goal

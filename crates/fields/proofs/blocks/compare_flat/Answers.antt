@@ -1,5 +1,4 @@
 use Rattle.std.proofs.Common.{sym, refl, ◌∙◌, arith}
-use borrow.Author.Tests.{not-false}
 use Rattle.fields.proofs.Stretches.{flat_compare_on}
 use Rattle.fields.proofs.blocks.compare_flat.Goals as goal
 

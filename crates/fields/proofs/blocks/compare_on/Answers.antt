@@ -24,13 +24,12 @@ pub loop-left-smaller : goal.loop-left-smaller
 loop-left-smaller c = omega arith
 
 pub loop-left-preserved : goal.loop-left-preserved
-loop-left-preserved c =
-    (
-      c.loop-left.invariant.0
-          ∙ flat_compare_turn _ _ _ _ _ refl refl _ c.loop-left-test.true (omega (arith, c.if-x-y.false)) (omega (arith, c.if-x-y.false)),
-      omega arith,
-      omega arith,
-    )
+loop-left-preserved c = (
+  c.loop-left.invariant.0
+      ∙ flat_compare_turn _ _ _ _ _ refl refl _ c.loop-left-test.true (omega (arith, c.if-x-y.false)) (omega (arith, c.if-x-y.false)),
+  omega arith,
+  omega arith,
+)
 
 pub returns : goal.returns
 returns c = sym (c.loop-left.invariant.0 ∙ flat_compare_none _ _ _ _ c.loop-left-test.false)

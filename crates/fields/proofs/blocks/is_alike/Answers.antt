@@ -1,4 +1,4 @@
-use Rattle.std.proofs.Common.{◌≡◌, ◌-◌, refl, ⊎_elim, arith, eq-eqb, eqb-true}
+use Rattle.std.proofs.Common.{◌≡◌, refl, arith, eq-eqb, eqb-true}
 use Rattle.fields.proofs.FlatLoops.{flat_compare_none}
 use Rattle.fields.proofs.Stretches.{alike_more, alike_fewer, alike_at}
 use Rattle.fields.proofs.blocks.is_alike.Goals as goal

@@ -1,4 +1,4 @@
-use Rattle.std.proofs.Common.{◌-◌, sym, refl, ◌∙◌, arith}
+use Rattle.std.proofs.Common.{sym, refl, ◌∙◌, arith}
 use Rattle.fields.proofs.ByteLoops.{compare_turn, compare_none, compare_low, compare_high}
 use Rattle.fields.proofs.each.compare_bytes.Goals as goal
 

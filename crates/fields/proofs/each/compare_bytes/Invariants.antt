@@ -1,4 +1,4 @@
-use Rattle.std.proofs.Common.{◌≡◌, ◌-◌}
+use Rattle.std.proofs.Common.{◌≡◌}
 use Rattle.pages.specs.Framed.{framed_of}
 use Rattle.fields.specs.Direct.{compare_field}
 use Rattle.fields.proofs.each.compare_bytes.Given as goal

@@ -1,4 +1,4 @@
-use Rattle.std.proofs.Common.{◌-◌, sym, refl, ◌∙◌, arith}
+use Rattle.std.proofs.Common.{sym, refl, ◌∙◌, arith}
 use Rattle.fields.proofs.ByteLoops.{move_turn, move_none}
 use Rattle.fields.proofs.each.move_bytes.Goals as goal
 

@@ -1,4 +1,4 @@
-use Rattle.std.proofs.Common.{◌≡◌, ◌-◌, length}
+use Rattle.std.proofs.Common.{◌≡◌, length}
 use Rattle.pages.specs.Framed.{framed_of}
 use Rattle.fields.specs.Direct.{move_field}
 use Rattle.fields.proofs.each.move_bytes.Given as goal

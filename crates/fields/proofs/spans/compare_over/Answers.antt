@@ -1,4 +1,4 @@
-use Rattle.std.proofs.Common.{◌-◌, ◌<◌, sym, ◌∙◌, arith}
+use Rattle.std.proofs.Common.{◌<◌, sym, ◌∙◌, arith}
 use Rattle.fields.specs.Direct.{compare_field}
 use Rattle.fields.proofs.BothLooked.{order_yes}
 use Rattle.fields.proofs.Spanned.{spans_both, spans_paged, noted_spans, step_is, compare_is, piece_some, piece_left, first_room, second_room, spot_low, compared_unlike, compared_alike, begun, all_alike}

@@ -1,4 +1,4 @@
-use Rattle.std.proofs.Common.{◌-◌, ◌<◌, sym, refl, ◌∙◌, arith}
+use Rattle.std.proofs.Common.{◌<◌, sym, refl, ◌∙◌, arith}
 use Rattle.fields.specs.Direct.{move_field}
 use Rattle.fields.proofs.Spanned.{spans_both, spans_paged, noted_spans, step_is, move_is, all_moved, piece_some, piece_left, first_room, second_room, spot_low, moved_on, still_spans, begun, mark_is}
 use Rattle.fields.proofs.spans.move_over.Goals as goal

@@ -1,5 +1,4 @@
 use mathlib.Core.Path.{refl}
-use Prim.Native.Nat.{◌-◌}
 use borrow.Author.Rules.{rules}
 use Rattle.printing.proofs.WritingLoops.{pages_turn, pages_end, pages_short}
 use Rattle.printing.proofs.lines.put_pages.Goals as goal

@@ -1,5 +1,4 @@
 use mathlib.Core.Path.{refl}
-use Prim.Native.Nat.{◌-◌}
 use borrow.Author.Rules.{rules}
 use Rattle.printing.proofs.WritingLoops.{regs_turn, regs_end}
 use Rattle.printing.proofs.lines.put_regs.Goals as goal

@@ -1,5 +1,4 @@
 use mathlib.Core.Path.{refl}
-use Prim.Native.Nat.{◌-◌}
 use borrow.Author.Rules.{rules}
 use Rattle.printing.proofs.WritingLoops.{text_turn, text_end}
 use Rattle.printing.proofs.writing.put_all.Goals as goal

@@ -3,7 +3,6 @@ use Rattle.actions.proofs.Executed.{operand_off, operand_stop, operand_go, loade
 use Rattle.fields.proofs.Widths.{room_of}
 use Rattle.fields.proofs.Found.{off_is, on_is, len_is, width_some, aligned_fits, found_inside, found_read, found_note}
 use Rattle.machine.specs.Rx.{rx}
-use Rattle.machine.specs.Cpu.{reg}
 use Rattle.machine.specs.Fields.{loading, bytes_of}
 use mathlib.Core.Path.{ap}
 use Rattle.rx_si.proofs.rx.load.Goals as goal

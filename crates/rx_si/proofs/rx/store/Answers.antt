@@ -3,7 +3,7 @@ use Rattle.actions.proofs.Executed.{operand_off, operand_stop, operand_go, store
 use Rattle.fields.proofs.Found.{off_is, on_is, len_is, width_some, aligned_fits, found_inside, found_write, found_note}
 use Rattle.machine.specs.Rx.{rx}
 use Rattle.machine.specs.Cpu.{reg}
-use Rattle.machine.specs.Fields.{storing, bytes_of}
+use Rattle.machine.specs.Fields.{storing}
 use mathlib.Core.Path.{refl}
 use Rattle.rx_si.proofs.rx.store.Goals as goal
 
