@@ -5,5 +5,4 @@ mod Runs
 mod Entries
 mod Only
 mod Windows
-mod Noted
 mod Spins

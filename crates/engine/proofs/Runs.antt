@@ -62,18 +62,6 @@ was_refused c (finished d t) go r z e =
     absurd (let y : ◌≡◌ {A = ℕ} 0 1 = sym z ∙ ap (λ (q : Result Cpu Framed). q.count) e in omega arith)
 was_refused c (refused n a t) go r z e = e
 
--- two stores that a step answers alike
-alike : (c : Cpu) (x y : Answer Cpu Framed) (go : Cpu → Framed → Result Cpu Framed) → one c x ≡ one c y → after_step c x go ≡ after_step c y go
-alike c (finished d t) y go e = ap (λ (z : Answer Cpu Framed). after_step c z go) (sym (was_done c y d t e))
-alike c (refused n a t) y go e = was_refused c y go (one c (refused n a t)) refl e
-
-pub run_alike : (regs : List ℕ) (c : Now) (s t : Framed) → doing step regs c s ≡ doing step regs c t → (budget : ℕ) → 0 < budget
-    → run ops_for step budget (cpu_of regs c) s ≡ run ops_for step budget (cpu_of regs c) t
-unfolding run
-run_alike regs c s t e zero h = absurd (omega arith)
-run_alike regs c s t e (suc b) h =
-    alike (cpu_of regs c) (interp framed (step (cpu_of regs c)) s s) (interp framed (step (cpu_of regs c)) t t) (λ c' s'. run ops_for step b c' s') e
-
 -- a turn of a run of which so many steps are left
 module _ (regs mem map : List ℕ) (at : Now) (budget left : ℕ) (h : 0 < left) where
   pub run_on : left ≤ budget → (out : Out) (next : Now) (regs' mem' map' : List ℕ)

@@ -1,7 +1,7 @@
 -- The quick loop: a turn of the quick way in the window is a step, and the steps done so far with those that are left make up the run.
 use Prim.Native.Nat.{ℕ, ◌+◌, ◌-◌, ◌%◌, ◌<◌, ◌≤◌}
 use native.Mathlib.Omega.{arith}
-use mathlib.Core.Path.{◌≡◌, refl, sym, ◌∙◌, ap, subst}
+use mathlib.Core.Path.{◌≡◌, refl, sym, ◌∙◌, ap}
 use mathlib.Core.Bool.{Bool, true, false}
 use mathlib.Core.List.{List}
 use borrow.Author.Tests.{lt-ltb, le-leb}
@@ -25,10 +25,10 @@ use Rattle.quick.specs.declared.Turn.TheVariants.{On, Away, Undone}
 use Rattle.quick.specs.Turns.{counter_at, now_at, Stands, Placed, Same, Comes, Turned}
 use Rattle.engine.specs.declared.Fetched.TheVariants as T
 use Rattle.engine.specs.declared.Spun.{Spun}
-use Rattle.engine.specs.Entry.{Opened, Ready, inside, adds, Went, spun_of}
+use Rattle.engine.specs.Entry.{Ready, inside, adds, Went}
 use Rattle.engine.proofs.Texts.{step_whole}
 use Rattle.engine.proofs.ReachedText.{text_reached}
-use Rattle.engine.proofs.Windows.{not_before, not_past, spans, window_found, window_six, window_small, ready_opened, window_marked, ready_after}
+use Rattle.engine.proofs.Windows.{not_before, not_past, held, window_found, window_six, window_small, window_marked, ready_after}
 use Rattle.engine.proofs.Runs.{run_start, run_on}
 
 -- a place in the window
@@ -48,19 +48,16 @@ module _ (w : Window) (mem map : List ℕ) (at : ℕ) (l : Lies w map (length me
       let b : counter_at w at - w.first < w.len = omega (arith, l.stands.behind, l.before) in
       rw (le-leb w.first (counter_at w at) a, lt-ltb (counter_at w at - w.first) w.len b)
 
-  opened : Opened w map (length mem)
-  opened = ready_opened w mem map l.ready
-
   abbrev room : ℕ
-  room = (spans w (counter_at w at) true is_inside refl mem map opened).far - (counter_at w at - w.first)
+  room = (held w mem map l.ready (counter_at w at) true is_inside refl).far - (counter_at w at - w.first)
 
   found : look_of map (length mem) Fetch (counter_at w at) ≡ At at room
   found =
-      window_found w (counter_at w at) true is_inside refl mem map opened
+      window_found w mem map l.ready (counter_at w at) true is_inside refl
       ∙ ap (λ (x : ℕ). At x room) there
 
   six : 6 ≤ room
-  six = window_six w (counter_at w at) true is_inside refl mem map opened
+  six = window_six w mem map l.ready (counter_at w at) true is_inside refl
 
   pub six_there : at + 6 ≤ length mem
   six_there = omega (arith, six, reach_inside map (length mem) Fetch (counter_at w at) at room found)
@@ -76,7 +73,7 @@ module _ (w : Window) (mem map : List ℕ) (at : ℕ) (l : Lies w map (length me
       record {
         stands = l.stands;
         near = omega (arith, low);
-        fits = omega (arith, window_small w (counter_at w at) true is_inside refl mem map opened);
+        fits = omega (arith, window_small w mem map l.ready (counter_at w at) true is_inside refl);
       }
 
   -- what was done is the step
@@ -153,27 +150,16 @@ module _ (w : Window) (budget mask at₀ code₀ : ℕ) (regs₀ mem₀ map₀ r
               };
         }
 
-  module _ (q k : ℕ) (o : turn ≡ Away q k) where
-    away : DoneAt (record { pc = q; code = k; mask = mask }) × (q < 4294967296)
-    unfolding Turned
-    away = rw o at t
+  pub away_left : (q k : ℕ) → turn ≡ Away q k → LeftAt (left - 1) (record { pc = q; code = k; mask = mask })
+  unfolding Turned
+  away_left q k o = one_fewer_lem (record { pc = q; code = k; mask = mask }) (rw o at t)
 
-    pub away_word : q < 4294967296
-    away_word = away.1
-
-    pub away_left : LeftAt (left - 1) (record { pc = q; code = k; mask = mask })
-    away_left = one_fewer_lem (record { pc = q; code = k; mask = mask }) away.0
-
-  module _ (q k : ℕ) (o : turn ≡ Undone q k) where
-    undone : Same (record { window = w; at = at; text = text; code = code; mask = mask }) q k × ((regs' ≡ regs) × ((mem' ≡ mem) × (map' ≡ map)))
-    unfolding Turned
-    undone = rw o at t
-
-    pub undone_word : q < 4294967296
-    undone_word = omega (arith, undone.0.counter, s.lies.stands.word)
-
-    pub undone_left : LeftAt left (record { pc = q; code = k; mask = mask })
-    undone_left = s.so_far ∙ rw (← undone.1.0, ← undone.1.1.0, ← undone.1.1.1, ← undone.0.counter, ← undone.0.still)
+  pub undone_left : (q k : ℕ) → turn ≡ Undone q k → LeftAt left (record { pc = q; code = k; mask = mask })
+  unfolding Turned
+  undone_left q k o = s.so_far ∙ rw (← u.1.0, ← u.1.1.0, ← u.1.1.1, ← u.0.counter, ← u.0.still)
+    where
+      u : Same (record { window = w; at = at; text = text; code = code; mask = mask }) q k × ((regs' ≡ regs) × ((mem' ≡ mem) × (map' ≡ map)))
+      u = rw o at t
 
 -- nothing done
 true_false : (b : Bool) → b ≡ true → b ≡ false → ⊥
@@ -195,10 +181,7 @@ module _ (w : Window) (c : Now) (mem map : List ℕ) (ready : Ready w map (lengt
   begin = w.base + (c.pc - w.first)
 
   first_before : w.first ≤ c.pc
-  first_before = not_before w c.pc true (sym t) refl
-
-  opened_now : Opened w map (length mem)
-  opened_now = ready_opened w mem map ready
+  first_before = not_before w mem map ready c.pc true (sym t) refl
 
   counted : counter_at w begin ≡ c.pc
   counted = omega (arith, first_before)
@@ -210,9 +193,9 @@ module _ (w : Window) (c : Now) (mem map : List ℕ) (ready : Ready w map (lengt
   low_pc =
       omega (
         arith,
-        window_six w c.pc true (sym t) refl mem map opened_now,
-        reach_below map (length mem) Fetch c.pc (w.base + (c.pc - w.first)) ((spans w c.pc true (sym t) refl mem map opened_now).far - (c.pc - w.first))
-            (window_found w c.pc true (sym t) refl mem map opened_now),
+        window_six w mem map ready c.pc true (sym t) refl,
+        reach_below map (length mem) Fetch c.pc (w.base + (c.pc - w.first)) ((held w mem map ready c.pc true (sym t) refl).far - (c.pc - w.first))
+            (window_found w mem map ready c.pc true (sym t) refl),
       )
 
   pub begins : c.pc % 2 ≡ 0 → (budget : ℕ) (regs : List ℕ)
@@ -228,25 +211,20 @@ module _ (w : Window) (c : Now) (mem map : List ℕ) (ready : Ready w map (lengt
             record {
               ready = ready;
               stands = record { behind = omega arith; even = ap (λ (x : ℕ). x % 2) counted ∙ e; word = omega (arith, counted, low_pc) };
-              before = omega (arith, not_past w c.pc true (sym t) refl);
+              before = omega (arith, not_past w mem map ready c.pc true (sym t) refl);
             };
       }
 
-  -- what is answered, with its counter by another name
-  module _ (budget : ℕ) (regs regs' mem' map' : List ℕ) (r : Spun) (q pc code left : ℕ) (eq : q ≡ pc)
-      (e : run ops_for step budget (cpu_of regs (now_at w begin c.code c.mask)) (framed_of mem map)
-      ≡ adds (budget - left) (run ops_for step left (cpu_of regs' (record { pc = pc; code = code; mask = c.mask })) (framed_of mem' map')))
-      (l : left ≤ budget) where
-    from_c : run ops_for step budget (cpu_of regs c) (framed_of mem map)
-        ≡ adds (budget - left) (run ops_for step left (cpu_of regs' (record { pc = q; code = code; mask = c.mask })) (framed_of mem' map'))
-    from_c = ap (λ (x : Now). run ops_for step budget (cpu_of regs x) (framed_of mem map)) (sym counts) ∙ e ∙ rw eq
+  module _ (budget : ℕ) (regs regs' mem' map' : List ℕ) (r : Spun)
+      (e : run ops_for step budget (cpu_of regs (now_at w begin c.code c.mask)) (framed_of mem map) ≡ adds (budget - r.left) (run ops_for step r.left (cpu_of regs' r.now) (framed_of mem' map')))
+      (l : r.left ≤ budget) where
+    from_c : run ops_for step budget (cpu_of regs c) (framed_of mem map) ≡ adds (budget - r.left) (run ops_for step r.left (cpu_of regs' r.now) (framed_of mem' map'))
+    from_c = ap (λ (x : Now). run ops_for step budget (cpu_of regs x) (framed_of mem map)) (sym counts) ∙ e
 
-    pub went_on : r ≡ spun_of q code c.mask left false → (0 < budget → left < budget) → Went c budget regs mem map regs' mem' map' r
-    went_on er fewer =
-        subst (Went c budget regs mem map regs' mem' map') (sym er)
-        (record { so_far = from_c; most = l; goes = λ s. fewer; stays = λ s p. absurd (true_false false s refl) })
+    pub went_on : r.stuck ≡ false → (0 < budget → r.left < budget) → Went c budget regs mem map regs' mem' map' r
+    went_on f fewer =
+        record { so_far = from_c; most = l; goes = λ s. fewer; stays = λ s p. absurd (true_false r.stuck s f) }
 
-    pub went_stuck : r ≡ spun_of q code c.mask left true → 0 < left → Went c budget regs mem map regs' mem' map' r
-    went_stuck er some =
-        subst (Went c budget regs mem map regs' mem' map') (sym er)
-        (record { so_far = from_c; most = l; goes = λ f p. absurd (true_false true refl f); stays = λ x p. some })
+    pub went_stuck : r.stuck ≡ true → 0 < r.left → Went c budget regs mem map regs' mem' map' r
+    went_stuck s some =
+        record { so_far = from_c; most = l; goes = λ f p. absurd (true_false r.stuck s f); stays = λ x p. some }

@@ -1,13 +1,13 @@
 -- The window: what holds of it every step keeps, and in it the text needs no look-up and the page no mark.
-use Prim.Native.Nat.{ℕ, ◌+◌, ◌-◌, ◌<◌, ◌≤◌}
+use Prim.Native.Nat.{ℕ, ◌+◌, ◌-◌, ◌*◌, ◌<◌, ◌≤◌}
 use native.Mathlib.Omega.{arith}
 use native.Mathlib.Decide.{ℕ_discrete, dec_lt}
 use mathlib.Core.Path.{◌≡◌, refl, sym, ◌∙◌, ap, subst}
-use mathlib.Core.Bool.{Bool, true}
+use mathlib.Core.Bool.{Bool, true, false}
 use mathlib.Core.List.{List}
-use borrow.Author.Tests.{leb-true, ltb-true}
-use lib.Dec.{leb, ltb}
-use lib.ListN.{length, get_or, set}
+use borrow.Author.Tests.{eqb-true, leb-true, ltb-true}
+use lib.Dec.{eqb, leb, ltb}
+use lib.ListN.{length, get_or, set, get_or-eq_default}
 use lib.Seq.{get_or-set_same, get_or-set_other, set_out}
 use Rattle.pages.specs.declared.Access.TheVariants.{Fetch, Store}
 use Rattle.pages.specs.declared.Look.{Look}
@@ -29,7 +29,7 @@ use Rattle.actions.specs.declared.Out.{Out}
 use Rattle.actions.specs.declared.Out.TheVariants.{Done}
 use Rattle.actions.specs.Answered.{cpu_of, told, doing}
 use Rattle.quick.specs.declared.Window.{Window}
-use Rattle.engine.specs.Entry.{Spans, Held, Opened, Ready, inside}
+use Rattle.engine.specs.Entry.{Held, Ready, inside}
 use Rattle.engine.proofs.Runs.{was_done}
 
 -- what marks keep of a page's word, every program keeps
@@ -83,19 +83,13 @@ written_seen : (w : ℕ) → bit_g (written w) ≡ bit_g w
 unfolding written bit_g
 written_seen w = omega arith
 
-pub held_accessed : (first len b size w : ℕ) → Spans first len b w size → Held first len b (accessed w) size
-held_accessed first len b size w s =
-    record {
-      spans = record { far = s.far; found = word_quiet accessed accessed_quiet size Fetch first w ∙ s.found; room = s.room };
-      seen = accessed_seen w;
-    }
+held_accessed : (first len b size w : ℕ) → Held first len b w size → Held first len b (accessed w) size
+held_accessed first len b size w h =
+    record { far = h.far; found = word_quiet accessed accessed_quiet size Fetch first w ∙ h.found; room = h.room; seen = accessed_seen w }
 
 held_written : (first len b size w : ℕ) → Held first len b w size → Held first len b (written w) size
 held_written first len b size w h =
-    record {
-      spans = record { far = h.spans.far; found = word_quiet written written_quiet size Fetch first w ∙ h.spans.found; room = h.spans.room };
-      seen = written_seen w ∙ h.seen;
-    }
+    record { far = h.far; found = word_quiet written written_quiet size Fetch first w ∙ h.found; room = h.room; seen = written_seen w ∙ h.seen }
 
 -- after a step
 module _ (w : Window) (mem map : List ℕ) (ready : Ready w map (length mem)) (regs : List ℕ) (c : Now) where
@@ -112,69 +106,68 @@ module _ (w : Window) (mem map : List ℕ) (ready : Ready w map (length mem)) (r
 
       still_held : Held w.first w.len w.base (word_of map (page_of w.first)) (length mem) → Held w.first w.len w.base (word_of map' (page_of w.first)) (length mem)
       still_held =
-          kept_by (λ (x : ℕ). Held w.first w.len w.base x (length mem))
-          (λ x h. held_accessed w.first w.len w.base (length mem) x h.spans)
-          (held_written w.first w.len w.base (length mem))
-          (page_of w.first) (step (cpu_of regs c)) (framed_of mem map) (framed_of mem map) (cpu_of regs' n) (framed_of mem' map') ended
+          kept_by (λ (x : ℕ). Held w.first w.len w.base x (length mem)) (held_accessed w.first w.len w.base (length mem)) (held_written w.first w.len w.base (length mem)) (page_of w.first) (step (cpu_of regs c)) (framed_of mem map) (framed_of mem map) (cpu_of regs' n) (framed_of mem' map') ended
 
 -- in the window
-module _ (w : Window) (pc : ℕ) (b : Bool) (eb : b ≡ inside w pc) (t : b ≡ true) where
+module _ (w : Window) (mem map : List ℕ) (ready : Ready w map (length mem)) (pc : ℕ) (b : Bool) (eb : b ≡ inside w pc) (t : b ≡ true) where
   pub not_before : w.first ≤ pc
   not_before = leb-true w.first pc (left_of_lem (leb w.first pc) (ltb (pc - w.first) w.len) (sym eb ∙ t))
 
   pub not_past : pc - w.first < w.len
   not_past = ltb-true (pc - w.first) w.len (right_of_lem (leb w.first pc) (ltb (pc - w.first) w.len) (sym eb ∙ t))
 
-  pub open_now : 0 < w.len
+  open_now : 0 < w.len
   open_now = omega (arith, not_past)
+
+  pub held : Held w.first w.len w.base (word_of map (page_of w.first)) (length mem)
+  held = ready open_now
+
+  first_found : look_of map (length mem) Fetch w.first ≡ At w.base held.far
+  unfolding look_of
+  first_found = held.found
+
+  -- what is reached from the window's first byte
+  reached : pc - w.first < held.far
+  reached = omega (arith, not_past, held.room)
 
   there : w.first + (pc - w.first) ≡ pc
   there = omega (arith, not_before)
 
-  module _ (mem map : List ℕ) (opened : Opened w map (length mem)) where
-    pub spans : Spans w.first w.len w.base (word_of map (page_of w.first)) (length mem)
-    spans = opened open_now
+  pub window_found : look_of map (length mem) Fetch pc ≡ At (w.base + (pc - w.first)) (held.far - (pc - w.first))
+  window_found =
+      ap (look_of map (length mem) Fetch) (sym there)
+      ∙ reach_behind map (length mem) Fetch w.first w.base held.far first_found (pc - w.first) reached
 
-    pub first_found : look_of map (length mem) Fetch w.first ≡ At w.base spans.far
-    unfolding look_of
-    first_found = spans.found
+  pub window_six : 6 ≤ held.far - (pc - w.first)
+  window_six = omega (arith, not_past, held.room)
 
-    -- what is reached from the window's first byte
-    reached : pc - w.first < spans.far
-    reached = omega (arith, not_past, spans.room)
+  pub window_small : w.base + w.len ≤ 270336
+  window_small =
+      omega
+      (arith, held.room, found_small map (length mem) Fetch w.first (At w.base held.far) w.base held.far (sym first_found) refl, reach_fits map (length mem) Fetch w.first w.base held.far first_found)
 
-    pub window_found : look_of map (length mem) Fetch pc ≡ At (w.base + (pc - w.first)) (spans.far - (pc - w.first))
-    window_found =
-        ap (look_of map (length mem) Fetch) (sym there)
-        ∙ reach_behind map (length mem) Fetch w.first w.base spans.far first_found (pc - w.first) reached
-
-    pub window_six : 6 ≤ spans.far - (pc - w.first)
-    window_six = omega (arith, not_past, spans.room)
-
-    pub window_small : w.base + w.len ≤ 270336
-    window_small =
-        omega
-        (arith, spans.room, found_small map (length mem) Fetch w.first (At w.base spans.far) w.base spans.far (sym first_found) refl, reach_fits map (length mem) Fetch w.first w.base spans.far first_found)
-
-    pub window_page : page_of pc ≡ page_of w.first
-    window_page =
-        ap page_of (sym there)
-        ∙ reach_page map (length mem) Fetch w.first w.base spans.far first_found (pc - w.first) reached
-
--- what is ready is opened, and its page has its mark
-module _ (w : Window) (mem map : List ℕ) (ready : Ready w map (length mem)) where
-  pub ready_opened : Opened w map (length mem)
-  ready_opened l = (ready l).spans
-
-  pub window_marked : (pc : ℕ) (b : Bool) (eb : b ≡ inside w pc) (t : b ≡ true) → map ≡ accessed_at map pc
-  window_marked pc b eb t =
-      seen_marked map pc (page_of w.first) (window_page w pc b eb t mem map ready_opened) (ready (open_now w pc b eb t)).seen
+  -- the page has its mark
+  pub window_marked : map ≡ accessed_at map pc
+  window_marked =
+      seen_marked map pc (page_of w.first)
+      (ap page_of (sym there) ∙ reach_page map (length mem) Fetch w.first w.base held.far first_found (pc - w.first) reached)
+      held.seen
 
 -- opened
-pub shut_opened : (w : Window) (map : List ℕ) (size : ℕ) → w.len ≡ 0 → Opened w map size
-shut_opened w map size e = λ l. absurd (omega arith)
+pub shut_ready : (w : Window) (map : List ℕ) (size : ℕ) → w.len ≡ 0 → Ready w map size
+shut_ready w map size e = λ l. absurd (omega arith)
 
-pub open_opened : (map : List ℕ) (size first len : ℕ) (found : Look) (r k : ℕ) → found ≡ look_of map size Fetch first → found ≡ At r k
-    → len + 5 ≤ k → Opened (record { first = first; len = len; base = r }) map size
+pub open_ready : (map : List ℕ) (size page first len : ℕ) (s : Bool) (found : Look) (r k : ℕ) → first ≡ page * 4096
+    → s ≡ eqb (bit_g (word_of map page)) 1 → s ≡ true → found ≡ look_of map size Fetch first → found ≡ At r k → len + 5 ≤ k
+    → Ready (record { first = first; len = len; base = r }) map size
 unfolding look_of
-open_opened map size first len found r k e f room = λ l. record { far = k; found = sym e ∙ f; room = room }
+open_ready map size page first len s found r k ef es ts el f room =
+    λ l. record { far = k; found = sym el ∙ f; room = room; seen = ap (λ (x : ℕ). bit_g (word_of map x)) at_page ∙ eqb-true (bit_g (word_of map page)) 1 (sym es ∙ ts) }
+  where
+    at_page : page_of first ≡ page
+    at_page = unfold page_of in omega (arith, ef)
+
+-- a page that the map lacks has no mark
+pub unseen : (map : List ℕ) (page : ℕ) → length map ≤ page → false ≡ eqb (bit_g (word_of map page)) 1
+unfolding word_of bit_g
+unseen map page h = rw (get_or-eq_default map 0 h)

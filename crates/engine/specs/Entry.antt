@@ -101,11 +101,6 @@ ran_as r regs s =
 abbrev pub adds : ℕ → Result Cpu Framed → Result Cpu Framed
 adds n r = record { stop = r.stop; place = r.place; count = n + r.count; cpu = r.cpu; held = r.held }
 
--- how far the quick way went, by the numbers
-abbrev pub spun_of : (pc code mask left : ℕ) → Bool → Spun
-spun_of pc code mask left stuck =
-    record { now = record { pc = pc; code = code; mask = mask }; left = left; stuck = stuck }
-
 -- how far the quick way went from c: the steps done make up the run with those left; where it is not stuck it has done one, and where it is
 -- one is left
 pub record Went (c : Now) (budget : ℕ) (regs mem map regs' mem' map' : List ℕ) (r : Spun) : Type 0 where
@@ -131,22 +126,14 @@ ran_reply r =
       mask = r.now.mask;
     }
 
--- the word of a page with a window: the look-up of the window's first byte, found at b, reaches its instructions' last bytes
-pub record Spans (first len b w size : ℕ) : Type 0 where
+-- the word of a page with a window: accessed, and the look-up of the window's first byte, found at b, reaches its instructions' last bytes
+pub record Held (first len b w size : ℕ) : Type 0 where
   pub far : ℕ
   pub found : look_with w size Fetch first ≡ At b far
   pub room : len + 5 ≤ far
-
--- and the page is accessed
-pub record Held (first len b w size : ℕ) : Type 0 where
-  pub spans : Spans first len b w size
   pub seen : bit_g w ≡ 1
 
--- a window is shut, or its page is in this map and a memory of this size; and it is accessed, so that the quick way may go on in it
-abbrev pub Opened : Window → List ℕ → ℕ → Type 0
-Opened w map size =
-    0 < w.len → Spans w.first w.len w.base (word_of map (page_of w.first)) size
-
+-- a window is shut, or holds of this map and a memory of this size
 abbrev pub Ready : Window → List ℕ → ℕ → Type 0
 Ready w map size =
     0 < w.len → Held w.first w.len w.base (word_of map (page_of w.first)) size

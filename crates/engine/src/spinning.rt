@@ -1,7 +1,6 @@
 // The quick loop: instruction after instruction within one window, as long as the rows of the quick way do them.
 ghost use Rattle.std.specs.Prelude.{◌≡◌, true, ◌%◌, length};
-ghost use Rattle.quick.specs.Turns.{counter_at, Stands};
-ghost use Rattle.engine.specs.Entry.{Ready, inside, Went, spun_of};
+ghost use Rattle.engine.specs.Entry.{Ready, inside, Went};
 
 use crate::Spun;
 use actions::Now;
@@ -18,47 +17,31 @@ pub fn still(c: Now, budget: u32) -> Spun
     }
 }
 
-// How far it went.
-fn spun(pc: u32, code: u32, mask: u32, left: u32, stuck: bool) -> Spun
-    ensures { result ≡ spun_of pc code mask left stuck }
-{
-    Spun {
-        now: Now {
-            pc: pc,
-            code: code,
-            mask: mask,
-        },
-        left: left,
-        stuck: stuck,
-    }
-}
-
-// The counter of an instruction at this place in memory.
-fn counter_at(w: Window, at: usize) -> u32
-    requires { Stands w at }
-    ensures { result ≡ counter_at w at }
-{
-    w.first + (at - w.base) as u32
-}
-
-// At most so many steps from c, which lies in the window: to the first instruction that the quick way leaves undone, or out of the
+// At most a budget of steps from c, which lies in the window: to the first instruction that the quick way leaves undone, or out of the
 // window. Asked for here, the lists' sizes are known to the compiler in the loop; its variable is the place in memory, and the counter is
 // made of it at the end.
-pub fn spin(regs: &mut [u32], mem: &mut [u8], map: &mut [u16], w: Window, c: Now, most: u32) -> Spun
+pub fn spin(
+    regs: &mut [u32],
+    mem: &mut [u8],
+    map: &mut [u16],
+    w: Window,
+    c: Now,
+    budget: u32,
+) -> Spun
     requires { Ready w map.old (length mem.old) × (inside w c.pc ≡ true) × (c.pc % 2 ≡ 0) }
-    ensures { Went c most regs.old mem.old map.old regs.new mem.new map.new result }
+    ensures { Went c budget regs.old mem.old map.old regs.new mem.new map.new result }
 {
     if regs.len() != 16 {
-        return still(c, most);
+        return still(c, budget);
     }
     if map.len() != 512 {
-        return still(c, most);
+        return still(c, budget);
     }
     let mask = c.mask;
     let last = w.base + w.len as usize;
     let mut at = w.base + (c.pc - w.first) as usize;
     let mut code = c.code;
-    let mut left = most;
+    let mut left = budget;
     while 0 < left {
         let p = Here {
             window: w,
@@ -72,14 +55,50 @@ pub fn spin(regs: &mut [u32], mem: &mut [u8], map: &mut [u16], w: Window, c: Now
             Turn::On(next, k) => {
                 left = left - 1;
                 if last <= next {
-                    return spun(counter_at(w, next), k, mask, left, false);
+                    return Spun {
+                        now: Now {
+                            pc: w.first + (next - w.base) as u32,
+                            code: k,
+                            mask: mask,
+                        },
+                        left: left,
+                        stuck: false,
+                    };
                 }
                 at = next;
                 code = k;
             }
-            Turn::Away(pc, k) => return spun(pc as u32, k, mask, left - 1, false),
-            Turn::Undone(pc, k) => return spun(pc as u32, k, mask, left, true),
+            Turn::Away(pc, k) => {
+                return Spun {
+                    now: Now {
+                        pc: pc,
+                        code: k,
+                        mask: mask,
+                    },
+                    left: left - 1,
+                    stuck: false,
+                };
+            }
+            Turn::Undone(pc, k) => {
+                return Spun {
+                    now: Now {
+                        pc: pc,
+                        code: k,
+                        mask: mask,
+                    },
+                    left: left,
+                    stuck: true,
+                };
+            }
         }
     }
-    spun(counter_at(w, at), code, mask, left, false)
+    Spun {
+        now: Now {
+            pc: w.first + (at - w.base) as u32,
+            code: code,
+            mask: mask,
+        },
+        left: left,
+        stuck: false,
+    }
 }

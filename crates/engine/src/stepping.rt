@@ -1,5 +1,5 @@
 // One step, the plain way; and a run of steps.
-ghost use Rattle.std.specs.Prelude.{◌≡◌, ◌<◌, ◌≤◌};
+ghost use Rattle.std.specs.Prelude.{◌≡◌, ◌≤◌};
 ghost use Rattle.pages.specs.Framed.{framed_of};
 ghost use Rattle.machine.specs.Run.{run};
 ghost use Rattle.machine.specs.Step.{step};
@@ -25,16 +25,13 @@ pub fn step_once(regs: &mut [u32], mem: &mut [u8], map: &mut [u16], c: Now) -> O
     }
 }
 
-// Steps of the quick way from c, where its page has a window. The page's mark is set first, as the quick way wants it: the next step, done
-// or refused, sets it in any case.
+// Steps of the quick way from c, where its page has a window.
 fn hurry(regs: &mut [u32], mem: &mut [u8], map: &mut [u16], c: Now, budget: u32) -> Spun
-    requires { 0 < budget }
     ensures { Went c budget regs.old mem.old map.old regs.new mem.new map.new result }
 {
     if c.pc % 2 == 0 {
         let w = window::open(mem, map, c.pc);
         if window::is_inside(w, c.pc) {
-            lookup::note(map, c.pc);
             return spinning::spin(regs, mem, map, w, c, budget);
         }
     }

@@ -1,5 +1,5 @@
 -- What the pieces of a row promise, from what they have in hand: done, or nothing done.
-use Prim.Native.Nat.{ℕ, ◌+◌, ◌-◌, ◌%◌, ◌≤◌, ◌<◌}
+use Prim.Native.Nat.{ℕ, ◌+◌, ◌%◌, ◌≤◌, ◌<◌}
 use native.Mathlib.Omega.{arith}
 use mathlib.Core.Path.{◌≡◌, refl, sym, ◌∙◌, ap, subst}
 use mathlib.Core.Bool.{Bool, true, false}
@@ -12,13 +12,8 @@ use Rattle.pages.specs.declared.Access.{Access}
 use Rattle.pages.specs.declared.Cause.{Cause}
 use Rattle.pages.specs.declared.Look.{Look}
 use Rattle.pages.specs.declared.Look.TheVariants.{At, Refused}
-use Rattle.pages.proofs.ReachLaws.{reach_inside, reach_some}
-use Rattle.pages.specs.Word.{bit_m, size, disp_of, page_of, word_of}
-use Rattle.pages.specs.Look.{look_of}
-use Rattle.lookup.specs.Marked.{marks_of, WholeLook}
-use Rattle.code.specs.declared.Width.{Width}
-use Rattle.machine.specs.Fields.{bytes_of}
-use Rattle.fields.proofs.Found.{aligned_fits}
+use Rattle.pages.proofs.ReachLaws.{reach_inside}
+use Rattle.lookup.specs.Marked.{MarkedLook}
 use Rattle.machine.specs.Prog.{Prog, done, fail, look, get, put}
 use Rattle.words.specs.declared.PairOp.{PairOp}
 use Rattle.words.specs.declared.Direction.{Direction}
@@ -38,92 +33,32 @@ use Rattle.actions.specs.Answered.{cpu_of, AnswersTo}
 use Rattle.quick.specs.declared.Here.{Here}
 use Rattle.quick.specs.declared.Turn.{Turn}
 use Rattle.quick.specs.declared.Turn.TheVariants.{On, Away, Undone}
-use Rattle.quick.specs.Turns.{counter_at, now_at, now_of, Placed, Same, Ended, Gone, PlaceLook, NotedLook, Lies, Missed, Did, DidAt}
+use Rattle.quick.specs.Turns.{counter_at, now_at, now_of, Placed, Same, Ended, Gone, FieldLook, Lies, Did}
 use Rattle.quick.proofs.Onward.{stands_on, ahead_on}
 
 -- nothing done
 pub same_here : (p : Here) → Same p (counter_at p.window p.at) p.code
 same_here p = record { counter = refl; still = refl }
 
--- a look-up for an operand
-pub place_is : (found : Look) (map : List ℕ) (size : ℕ) (acc : Access) (w : Width) (a : ℕ) → PlaceLook found map size acc w a → (i k : ℕ) → found ≡ At i k
-    → (a % bytes_of w ≡ 0) × ((look_of map size acc a ≡ At i k) × (bytes_of w ≤ k))
-unfolding PlaceLook
-place_is found map size acc w a h i k e = rw e at h
-
-pub place_off : (c : Cause) (b : ℕ) (map : List ℕ) (size : ℕ) (acc : Access) (w : Width) (a : ℕ) → PlaceLook (Refused c b) map size acc w a
-unfolding PlaceLook
-place_off c b map size acc w a = record {}
-
--- what is left of a page, on a boundary, holds the operand
-left_enough : (w x a k : ℕ) → a % 2048 + w ≤ 2048 → k ≡ size x - disp_of a → 0 < k → w ≤ k
-unfolding size disp_of
-left_enough w x a k l e s = by_size (eqb (bit_m x) 1) e
-  where
-    by_size : (b : Bool) → k ≡ pick b 2048 4096 - a % 4096 → w ≤ k
-    by_size true f = omega arith
-    by_size false f = omega arith
-
-pub place_on : (found : Look) (map : List ℕ) (n : ℕ) (acc : Access) (w : Width) (a : ℕ) → a % bytes_of w ≡ 0 → WholeLook found map n acc a → PlaceLook found map n acc w a
-unfolding PlaceLook WholeLook
-place_on (At r k) map n acc w a e (h, l) =
-    (e, (h, left_enough (bytes_of w) (word_of map (page_of a)) a k (aligned_fits w a e) l (reach_some map n acc a r k h)))
-place_on (Refused c b) map n acc w a e h = h
-
--- with its marks
-pub noted_off : (found : Look) (c : Cause) (b : ℕ) (map : List ℕ) (n : ℕ) (acc : Access) (w : Width) (a : ℕ) → found ≡ Refused c b → NotedLook found map map n acc w a
-unfolding NotedLook
-noted_off found c b map n acc w a e = rw e refl
-
-pub noted_on : (found : Look) (map map' : List ℕ) (n : ℕ) (acc : Access) (w : Width) (a i k : ℕ) → PlaceLook found map n acc w a → found ≡ At i k → map' ≡ marks_of acc map a
-    → NotedLook (At i k) map map' n acc w a
-unfolding NotedLook PlaceLook
-noted_on found map map' n acc w a i k h e m = (place_is found map n acc w a h i k e, m)
-
--- what was found lies in memory
-pub place_lies : (found : Look) (map : List ℕ) (n : ℕ) (acc : Access) (w : Width) (a : ℕ) → PlaceLook found map n acc w a → (i k far : ℕ) → found ≡ At i k → far ≤ k → i + far ≤ n
-place_lies found map n acc w a h i k far e l =
-    let z = place_is found map n acc w a h i k e in
-    let g = reach_inside map n acc a i k z.1.0 in
-    omega (arith, g, l)
-
-pub noted_lies : (found : Look) (map map' : List ℕ) (n : ℕ) (acc : Access) (w : Width) (a : ℕ) → NotedLook found map map' n acc w a → Lies found (bytes_of w) n
-unfolding NotedLook
-noted_lies (At r j) map map' n acc w a (h, m) i k e =
-    let z = place_is (At r j) map n acc w a h i k e in place_lies (At r j) map n acc w a h i k (bytes_of w) e z.1.1
-noted_lies (Refused c b) map map' n acc w a h i k e = absurd (let z : ◌≡◌ {A = ℕ} 0 1 = cc in omega arith)
-
--- a refusal finds nothing
-pub missed : (found : Look) (c : Cause) (b : ℕ) → found ≡ Refused c b → Missed found
-missed found c b e i k f = let z : ◌≡◌ {A = ℕ} 0 1 = cc in omega arith
-
 module _ (p : Here) (r : Turn) (e : r ≡ Undone (counter_at p.window p.at) p.code) where
-  pub did_not : (found : Look) (c : Cause) (b : ℕ) → found ≡ Refused c b → (work : ℕ → List ℕ × ℕ) (before : List ℕ) → Did r p found work before before
+  pub did_not : (found : Look) (n len : ℕ) (work : ℕ → List ℕ × ℕ) (before : List ℕ) → Did r p found n len work before before
   unfolding Did
-  did_not found c b f work before = rw e (same_here p, (refl, missed found c b f))
-
-  pub not_at : (map : List ℕ) (size : ℕ) (acc : Access) (n far a : ℕ) (work : ℕ → List ℕ × ℕ) (before : List ℕ) → DidAt r p map map size acc n far a work before before
-  unfolding DidAt
-  not_at map size acc n far a work before = rw e (same_here p, (refl, refl))
+  did_not found n len work before = rw e (same_here p, refl)
 
   pub ended_not : (prog : Cpu → Prog Cpu) (regs regs' : List ℕ) → regs' ≡ regs → Ended r p prog regs regs'
   unfolding Ended
   ended_not prog regs regs' er = rw e (same_here p, er)
 
 -- a row with one operand, done
-pub did_on : (p : Here) (found : Look) (work : ℕ → List ℕ × ℕ) (before after : List ℕ) (k i reach : ℕ)
-    → found ≡ At i reach → after ≡ (work i).0 → k ≡ (work i).1 → Did (On (p.at + 4) k) p found work before after
+pub did_on : (p : Here) (found : Look) (n len : ℕ) (work : ℕ → List ℕ × ℕ) (before after : List ℕ) (k i reach : ℕ)
+    → found ≡ At i reach → n ≤ reach → after ≡ (work i).0 → k ≡ (work i).1 → Did (On (p.at + len) k) p found n len work before after
 unfolding Did
-did_on p found work before after k i reach e c d =
-    record { i = i; reach = reach; there = e; on = refl; changed = c; coded = d }
+did_on p found n len work before after k i reach e h c d =
+    record { i = i; reach = reach; there = e; far = h; on = refl; changed = c; coded = d }
 
-pub done_at : (p : Here) (map map' : List ℕ) (size : ℕ) (acc : Access) (w : Width) (far a : ℕ) (work : ℕ → List ℕ × ℕ) (before after : List ℕ) (found : Look) (k i reach : ℕ)
-    → PlaceLook found map size acc w a → found ≡ At i reach → far ≤ reach → map' ≡ marks_of acc map a → after ≡ (work i).0 → k ≡ (work i).1
-    → DidAt (On (p.at + 4) k) p map map' size acc (bytes_of w) far a work before after
-unfolding DidAt
-done_at p map map' size acc w far a work before after found k i reach h e f m c d =
-    let z = place_is found map size acc w a h i reach e in
-    record { i = i; reach = reach; aligned = z.0; there = z.1.0; enough = f; marks = m; on = refl; changed = c; coded = d }
+-- what was found can be read and stored there
+pub lies_room : (found : Look) (size i k n : ℕ) → Lies found size → found ≡ At i k → n ≤ k → i + n ≤ size
+lies_room found size i k n l e h = let z = l i k e in omega (arith, z, h)
 
 -- the counter and the mask that a program ends with
 abbrev pc_of : Prog Cpu → ℕ
@@ -231,8 +166,30 @@ module _ (p : Here) (regs' : List ℕ) (d : Cpu) (er : d.regs ≡ regs') (to : �
       → Ended t p prog regs regs'
   unfolding Ended Gone
   gone_ends prog regs (On a k) e (ec, (eco, st)) = (same_cpu (counter_at p.window a) k ec eco ∙ sym e, st)
-  gone_ends prog regs (Away q k) e (ec, (eco, l)) = (same_cpu q k ec eco ∙ sym e, l)
+  gone_ends prog regs (Away q k) e (ec, eco) = same_cpu q k ec eco ∙ sym e
   gone_ends prog regs (Undone q k) e g = absurd g
 
-pub lies_byte : (found : Look) (n i k : ℕ) → Lies found 1 n → found ≡ At i k → i < n
-lies_byte found n i k l e = let z = l i k e in omega arith
+-- a look-up for an operand
+pub field_off : (c : Cause) (b : ℕ) (map : List ℕ) (size : ℕ) (acc : Access) (n a : ℕ) → FieldLook (Refused c b) map size acc n a
+unfolding FieldLook
+field_off c b map size acc n a = record {}
+
+pub field_on : (found : Look) (map : List ℕ) (size : ℕ) (acc : Access) (n a : ℕ) → a % n ≡ 0 → MarkedLook found map size acc a → FieldLook found map size acc n a
+unfolding FieldLook MarkedLook
+field_on (At r k) map size acc n a e m = (e, m)
+field_on (Refused c b) map size acc n a e m = m
+
+pub field_lies : (found : Look) (map : List ℕ) (size : ℕ) (acc : Access) (n a : ℕ) → FieldLook found map size acc n a → Lies found size
+unfolding FieldLook
+field_lies (At r k) map size acc n a (e, m) i j f =
+    let z : r ≡ i = cc in
+    let y : k ≡ j = cc in
+    let g = reach_inside map size acc a r k m.there in
+    omega (arith, g, z, y)
+field_lies (Refused c b) map size acc n a m i j f = absurd (let z : ◌≡◌ {A = ℕ} 0 1 = cc in omega arith)
+
+pub lies_byte : (found : Look) (size i k : ℕ) → Lies found size → found ≡ At i k → 1 ≤ k → i < size
+lies_byte found size i k l e h = let z = l i k e in omega (arith, z, h)
+
+pub field_at : (found : Look) (map : List ℕ) (size : ℕ) (acc : Access) (n a b : ℕ) → a ≡ b → FieldLook found map size acc n a → FieldLook found map size acc n b
+field_at found map size acc n a b e h = subst (λ (x : ℕ). FieldLook found map size acc n x) e h

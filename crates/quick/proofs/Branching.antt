@@ -26,9 +26,9 @@ pub gone_in : (w : Window) (to code : ℕ) → to % 2 ≡ 0 → w.first ≤ to �
 unfolding Gone
 gone_in w to code e h l = (target_place w to h, (refl, target_stands w to h e l))
 
-pub gone_out : (w : Window) (to code : ℕ) → to < 4294967296 → Gone (Away to code) w to code
+pub gone_out : (w : Window) (to code : ℕ) → Gone (Away to code) w to code
 unfolding Gone
-gone_out w to code l = (refl, (refl, l))
+gone_out w to code = (refl, refl)
 
 -- registers at exit are those of d, a state behind the instruction; it goes, or it doesn't
 module _ (p : Here) (h : Placed p) (regs regs' : List ℕ) (prog : Cpu → Prog Cpu) (b : Bool) (to len : ℕ) (eb : prog (cpu_of regs (now_of p)) ≡ done (going b to (record { regs = regs'; pc = ahead (cpu_of regs (now_of p)) len; code = p.code; mask = p.mask }))) where

@@ -1,17 +1,15 @@
 -- Moves and compares: both fields reached by their first look-ups, in pages that have their marks; or over an edge.
 use Prim.Native.Nat.{ℕ, suc, ◌+◌, ◌<◌, ◌≤◌}
 use native.Mathlib.Omega.{arith}
-use mathlib.Core.Path.{◌≡◌, refl, sym, ◌∙◌, ap, subst}
-use mathlib.Core.Bool.{Bool, true, false}
+use mathlib.Core.Path.{◌≡◌, refl, sym, ◌∙◌, ap}
 use mathlib.Core.List.{List}
 use lib.ListN.{length}
 use Rattle.pages.specs.declared.Access.TheVariants.{Load, Store}
 use Rattle.pages.specs.declared.Cause.{Cause}
 use Rattle.pages.specs.declared.Look.{Look}
 use Rattle.pages.specs.declared.Look.TheVariants.{At, Refused}
-use Rattle.pages.specs.Tests.{is_store}
 use Rattle.pages.specs.Framed.{Framed, framed_of}
-use Rattle.pages.proofs.ReachLaws.{reach_inside, reach_some}
+use Rattle.pages.proofs.ReachLaws.{reach_inside}
 use Rattle.pages.specs.declared.Access.{Access}
 use Rattle.lookup.specs.Marked.{MarkedLook, Found}
 use Rattle.fields.specs.declared.Order.{Order}
@@ -22,7 +20,7 @@ use Rattle.rs_ss.proofs.BothReached.{both_found, field_noted, both_moved, both_c
 use Rattle.quick.specs.declared.Here.{Here}
 use Rattle.quick.specs.declared.Turn.{Turn}
 use Rattle.quick.specs.declared.Turn.TheVariants.{On, Undone}
-use Rattle.quick.specs.Turns.{counter_at, MovedBoth, MovedIf, Moved, Compared}
+use Rattle.quick.specs.Turns.{counter_at, Moved, Compared}
 use Rattle.quick.proofs.Answered.{same_here}
 
 pub marked_is : (found : Look) (map : List ℕ) (size : ℕ) (acc : Access) (a r k : ℕ) → MarkedLook found map size acc a → found ≡ At r k → Found map size acc a r k
@@ -54,91 +52,21 @@ pub barred_look : (look : Look) (order : Order) (mem map map' : List ℕ) (a b n
 barred_look (At r k) order mem map map' a b n c q e f m = absurd (let z : ◌≡◌ {A = ℕ} 0 1 = cc in omega arith)
 barred_look (Refused d x) order mem map map' a b n c q e f m = m
 
--- n bytes, moved
-module _ (a b n : ℕ) (mem map : List ℕ) where
-  pub both_over : (found : Look) (i reach : ℕ) → found ≡ look_both map (length mem) Store a b n → found ≡ At i reach → (mem' map' : List ℕ)
-      → framed_of mem' map' ≡ moved_by found mem map a b n → MovedBoth a b n mem map mem' map'
-  both_over found i reach e f mem' map' m =
-      record { i = i; reach = reach; there = sym e ∙ f; held = m ∙ ap (λ (x : Look). moved_by x mem map a b n) f }
-
-  pub both_edge : (i reach : ℕ) (mem' : List ℕ) → (look_both map (length mem) Store a b n ≡ At i reach) × (framed_of mem' map ≡ moved_by (At i reach) mem map a b n)
-      → MovedBoth a b n mem map mem' map
-  both_edge i reach mem' (e, m) = record { i = i; reach = reach; there = e; held = m }
-
-  -- both reached by their first look-ups
-  pub both_flat : (x room y more : ℕ) → 0 < n → n ≤ room → n ≤ more → Found map (length mem) Store a x room → Found map (length mem) Load b y more
-      → (mem' : List ℕ) → mem' ≡ flat_move mem x y n → MovedBoth a b n mem map mem' map
-  both_flat x room y more some far far' there here mem' em =
-      both_over (At x room) x room found refl mem' map
-      (both_moved mem map a b n (At x room) (At y more) (sym here.there) x room y more refl refl far far' map map n1 n2 (sym there.there) some mem' map em (there.written refl)
-      ∙ ap (λ (m : List ℕ). move_field (framed_of mem m) a b n) both)
-    where
-      n1 : map ≡ note_field map a n
-      n1 = field_noted map (length mem) Store a x room n (At x room) (sym there.there) refl some far map map there.accessed
-
-      n2 : map ≡ note_field map b n
-      n2 = field_noted map (length mem) Load b y more n (At y more) (sym here.there) refl some far' map map here.accessed
-
-      both : map ≡ note_both map a b n
-      both = n2 ∙ ap (λ (m : List ℕ). note_field m b n) n1
-
-      found : At x room ≡ look_both map (length mem) Store a b n
-      found =
-          both_found map (length mem) (record { access = Store; at = a; len = n }) (record { access = Load; at = b; len = n }) (At x room) (sym there.there) x room refl far (At y more) (sym here.there) y more refl far'
-
-pub moved_done : (p : Here) (a b n l : ℕ) → n ≡ suc l → (mem map mem' map' : List ℕ) → MovedBoth a b n mem map mem' map'
-    → Moved (On (p.at + 6) p.code) p a b (suc l) mem map mem' map'
-unfolding Moved
-moved_done p a b n l en mem map mem' map' m = record { moved = rw (← en) m; on = refl; still = refl }
-
--- a part of the row was done, or not
-module _ (to from n : ℕ) (map : List ℕ) where
-  pub moved_yes : (mem mem' map' : List ℕ) → MovedBoth to from n mem map mem' map' → MovedIf true to from n mem map mem' map'
-  moved_yes mem mem' map' m = (λ e. m, λ e. absurd (let z : ◌≡◌ {A = ℕ} 0 1 = cc in omega arith))
-
-  pub moved_no : (mem mem' map' : List ℕ) → (mem' ≡ mem) × (map' ≡ map) → MovedIf false to from n mem map mem' map'
-  moved_no mem mem' map' h = (λ e. absurd (let z : ◌≡◌ {A = ℕ} 0 1 = cc in omega arith), λ e. h)
-
-  pub moved_after : (b : Bool) (mem mem₁ mem' map' : List ℕ) → mem₁ ≡ mem → MovedIf b to from n mem₁ map mem' map' → MovedIf b to from n mem map mem' map'
-  moved_after b mem mem₁ mem' map' e h = subst (λ (m : List ℕ). MovedIf b to from n m map mem' map') e h
-
-pub found_after : (map : List ℕ) (size size' : ℕ) (acc : Access) (a r k : ℕ) → size' ≡ size → Found map size acc a r k → Found map size' acc a r k
-found_after map size size' acc a r k e f = subst (λ (n : ℕ). Found map n acc a r k) (sym e) f
-
--- what a move over an edge asks for
-module _ (map : List ℕ) (size to from n x room y more : ℕ) (there : Found map size Store to x room) (here : Found map size Load from y more) where
-  there_in : x + room ≤ size
-  there_in = reach_inside map size Store to x room there.there
-
-  here_in : y + more ≤ size
-  here_in = reach_inside map size Load from y more here.there
-
-  abbrev Asked : Access → ℕ → Type 0
-  Asked acc k =
-      (0 < k) × (k < n) × (x + k ≤ size) × (y + k ≤ size) × (is_store acc ≡ true → y + n ≤ size) × (is_store acc ≡ false → x + n ≤ size)
-
-  pub read_asks : n ≤ room → more < n → Asked Load more
-  read_asks h l = (
-    reach_some map size Load from y more here.there,
-    l,
-    omega (arith, there_in),
-    here_in,
-    λ e. absurd (let z : ◌≡◌ {A = ℕ} 0 1 = cc in omega arith),
-    λ e. omega (arith, there_in),
-  )
-
-  pub stored_asks : n ≤ more → room < n → Asked Store room
-  stored_asks h l = (
-    reach_some map size Store to x room there.there,
-    l,
-    there_in,
-    omega (arith, here_in),
-    λ e. omega (arith, here_in),
-    λ e. absurd (let z : ◌≡◌ {A = ℕ} 0 1 = cc in omega arith),
-  )
-
--- n bytes, compared, as L says
+-- n bytes, as L says
 module _ (p : Here) (a b n l : ℕ) (en : n ≡ suc l) (mem map : List ℕ) where
+  pub moved_over : (found : Look) (i reach : ℕ) → found ≡ look_both map (length mem) Store a b n → found ≡ At i reach → (mem' map' : List ℕ)
+      → framed_of mem' map' ≡ moved_by found mem map a b n → Moved (On (p.at + 6) p.code) p a b (suc l) mem map mem' map'
+  unfolding Moved
+  moved_over found i reach e f mem' map' m =
+      record {
+        i = i;
+        reach = reach;
+        there = rw (← en) (sym e ∙ f);
+        held = rw (← en) (m ∙ ap (λ (x : Look). moved_by x mem map a b n) f);
+        on = refl;
+        still = refl;
+      }
+
   pub compared_over : (look : Look) (order : Order) (k : ℕ) → look ≡ look_both map (length mem) Load a b n → order ≡ order_of look mem map a b n → order ≡ Code k
       → (map' : List ℕ) → map' ≡ noted_by look map a b n → Compared (On (p.at + 6) k) p a b (suc l) mem map map'
   unfolding Compared
@@ -160,6 +88,25 @@ module _ (p : Here) (a b n l : ℕ) (en : n ≡ suc l) (mem map : List ℕ) wher
   module _ (x room y more : ℕ) (far : n ≤ room) (far' : n ≤ more) (here : Found map (length mem) Load b y more) where
     some : 0 < n
     some = omega arith
+
+    pub moved_flat : Found map (length mem) Store a x room → (mem' : List ℕ) → mem' ≡ flat_move mem x y n → Moved (On (p.at + 6) p.code) p a b (suc l) mem map mem' map
+    moved_flat there mem' em =
+        moved_over (At x room) x room found refl mem' map
+        (both_moved mem map a b n (At x room) (At y more) (sym here.there) x room y more refl refl far far' map map n1 n2 (sym there.there) some mem' map em (there.written refl)
+        ∙ ap (λ (m : List ℕ). move_field (framed_of mem m) a b n) both)
+      where
+        n1 : map ≡ note_field map a n
+        n1 = field_noted map (length mem) Store a x room n (At x room) (sym there.there) refl some far map map there.accessed
+
+        n2 : map ≡ note_field map b n
+        n2 = field_noted map (length mem) Load b y more n (At y more) (sym here.there) refl some far' map map here.accessed
+
+        both : map ≡ note_both map a b n
+        both = n2 ∙ ap (λ (m : List ℕ). note_field m b n) n1
+
+        found : At x room ≡ look_both map (length mem) Store a b n
+        found =
+            both_found map (length mem) (record { access = Store; at = a; len = n }) (record { access = Load; at = b; len = n }) (At x room) (sym there.there) x room refl far (At y more) (sym here.there) y more refl far'
 
     pub compared_flat : Found map (length mem) Load a x room → (k : ℕ) → k ≡ flat_compare mem x y n → Compared (On (p.at + 6) k) p a b (suc l) mem map map
     compared_flat there k ek =

@@ -19,7 +19,6 @@ use Rattle.code.specs.declared.Found.TheVariants.{Known}
 use Rattle.code.specs.declared.Branch.{Branch}
 use Rattle.code.specs.declared.Operand.{Operand}
 use Rattle.code.specs.declared.Width.{Width}
-use Rattle.code.specs.declared.Width.TheVariants.{Byte}
 use Rattle.code.specs.declared.RrAction.TheVariants.{RegisterBranch}
 use Rattle.code.specs.declared.RxAction.TheVariants.{Taking, Storing, AddressBranch, PairAndWord}
 use Rattle.code.specs.declared.RsAction.TheVariants.{LoadMultiple, StoreMultiple}
@@ -45,10 +44,10 @@ use Rattle.rs_ss.proofs.Ways.{move_ended, compare_ended}
 use Rattle.quick.specs.declared.Here.{Here}
 use Rattle.quick.specs.declared.Turn.{Turn}
 use Rattle.quick.specs.declared.Turn.TheVariants.{On, Away, Undone}
-use Rattle.quick.specs.Turns.{counter_at, now_of, address_at, Stands, Placed, Turned, Ended, NotedLook, Did, DidAt, PairDid, Moved, Compared}
+use Rattle.quick.specs.Turns.{counter_at, now_of, address_at, Stands, Placed, Turned, Ended, FieldLook, Did, PairDid, Moved, Compared}
 use Rattle.quick.specs.Work.{loads, stores, compares_byte, tests_byte, changes_byte, puts_byte, many_of, fills, spills}
 use Rattle.quick.proofs.Onward.{stands_on, ahead_on}
-use Rattle.quick.proofs.RowKinds.{free_row, as_whole_lem, did_at, into_registers, into_memory, load_comes, store_comes, compare_comes, test_comes, bits_comes, put_comes, fill_comes, spill_comes, pair_comes}
+use Rattle.quick.proofs.RowKinds.{free_row, as_whole_lem, found_is, into_registers, into_memory, load_comes, store_comes, compare_comes, test_comes, bits_comes, put_comes, fill_comes, spill_comes, pair_comes}
 
 -- nothing done
 pub turned_not : (t : Turn) (p : Here) (prog : Cpu → Prog Cpu) (regs mem map : List ℕ) → t ≡ Undone (counter_at p.window p.at) p.code
@@ -60,7 +59,7 @@ ended_same : (t : Turn) (p : Here) (prog prog' : Cpu → Prog Cpu) (regs regs' :
     → Ended t p prog regs regs' → Ended t p prog' regs regs'
 unfolding Ended
 ended_same (On a k) p prog prog' regs regs' e (h, s) = (h ∙ e, s)
-ended_same (Away q k) p prog prog' regs regs' e (h, s) = (h ∙ e, s)
+ended_same (Away q k) p prog prog' regs regs' e h = h ∙ e
 ended_same (Undone q k) p prog prog' regs regs' e h = h
 
 module _ (t : Turn) (p : Here) (pl : Placed p) (regs mem map : List ℕ) (code : ℕ) (eo : op_of p.text ≡ code) where
@@ -93,96 +92,81 @@ module _ (t : Turn) (p : Here) (pl : Placed p) (regs mem map : List ℕ) (code :
   rx_branch_arm b ea to regs' et h =
       free_arm (Rx (AddressBranch b)) ea regs' (ended_same t p _ (rx (AddressBranch b) (rx_of p.text h2)) regs regs' (rw (et (now_of p))) h)
 
-  -- an operand in storage, at address a
-  module _ (map' : List ℕ) (a : ℕ) where
-    abbrev Indexed : Type 0
-    Indexed = (c : Now) → a ≡ address_at regs c mem p.text (p.at + 2)
+  -- an operand in storage
+  module _ (found : Look) where
+    pub load_arm : (op : Operand) → action_of code ≡ Known (Rx (Taking op)) → ((c : Now) → FieldLook found map (length mem) Load (bytes_of (width_of op)) (address_at regs c mem p.text (p.at + 2)))
+        → (regs' : List ℕ) → Did t p found (bytes_of (width_of op)) 4 (loads op p.text p.code mem regs) regs regs' → Turned t p (whole p.text h2 h3) regs mem map regs' mem map
+    load_arm op ea fl regs' d =
+        acted (Rx (Taking op)) ea regs' mem map
+        (into_registers t p pl found (bytes_of (width_of op)) 4 refl (omega arith) _ (rx (Taking op) (rx_of p.text h2)) regs mem map
+        (λ i k e far. let f = found_is found map (length mem) Load (bytes_of (width_of op)) _ i k (fl (now_of p)) e in load_comes p pl regs mem map op h2 _ i k refl f.0 f.1 far) regs' d)
 
-    abbrev Based : Type 0
-    Based = (c : Now) → a ≡ address_at regs c mem 0 (p.at + 2)
+    pub store_arm : (w : Width) → action_of code ≡ Known (Rx (Storing w)) → ((c : Now) → FieldLook found map (length mem) Store (bytes_of w) (address_at regs c mem p.text (p.at + 2)))
+        → (mem' : List ℕ) → Did t p found (bytes_of w) 4 (stores w p.text p.code regs mem) mem mem' → Turned t p (whole p.text h2 h3) regs mem map regs mem' map
+    store_arm w ea fl mem' d =
+        acted (Rx (Storing w)) ea regs mem' map
+        (into_memory t p pl found (bytes_of w) 4 refl (omega arith) _ (rx (Storing w) (rx_of p.text h2)) regs mem map
+        (λ i k e far. let f = found_is found map (length mem) Store (bytes_of w) _ i k (fl (now_of p)) e in store_comes p pl regs mem map w h2 _ i k refl f.0 f.1 far) mem' d)
 
-    pub fill_arm : action_of code ≡ Known (Rs LoadMultiple) → Based → (regs' : List ℕ)
-        → DidAt t p map map' (length mem) Load 4 (many_of p.text * 4) a (fills p.text p.code mem regs) regs regs'
-        → Turned t p (whole p.text h2 h3) regs mem map regs' mem map'
-    fill_arm ea et regs' d =
-        acted (Rs LoadMultiple) ea regs' mem map'
-        (into_registers t p pl map map' (length mem) Load 4 (many_of p.text * 4) a _ (rs LoadMultiple (rs_of p.text h2)) regs mem
-        (λ i k on th far em. fill_comes p pl regs mem map map' h2 a i k (et (now_of p)) on th em far) regs' d)
+    pub compare_arm : action_of code ≡ Known (Si CompareByte) → ((c : Now) → FieldLook found map (length mem) Load 1 (address_at regs c mem 0 (p.at + 2)))
+        → Did t p found 1 4 (compares_byte p.text mem) mem mem → Turned t p (whole p.text h2 h3) regs mem map regs mem map
+    compare_arm ea fl d =
+        acted (Si CompareByte) ea regs mem map
+        (into_memory t p pl found 1 4 refl (omega arith) _ (si CompareByte (si_of p.text h2)) regs mem map
+        (λ i k e far. let f = found_is found map (length mem) Load 1 _ i k (fl (now_of p)) e in compare_comes p pl regs mem map h2 _ i k refl f.1) mem d)
 
-    pub spill_arm : action_of code ≡ Known (Rs StoreMultiple) → Based → (mem' : List ℕ)
-        → DidAt t p map map' (length mem) Store 4 (many_of p.text * 4) a (spills p.text p.code regs mem) mem mem'
-        → Turned t p (whole p.text h2 h3) regs mem map regs mem' map'
-    spill_arm ea et mem' d =
-        acted (Rs StoreMultiple) ea regs mem' map'
-        (into_memory t p pl map map' (length mem) Store 4 (many_of p.text * 4) a _ (rs StoreMultiple (rs_of p.text h2)) regs mem
-        (λ i k on th far em. spill_comes p pl regs mem map map' h2 a i k (et (now_of p)) on th em far) mem' d)
+    pub test_arm : action_of code ≡ Known (Si TestMask) → ((c : Now) → FieldLook found map (length mem) Load 1 (address_at regs c mem 0 (p.at + 2)))
+        → Did t p found 1 4 (tests_byte p.text mem) mem mem → Turned t p (whole p.text h2 h3) regs mem map regs mem map
+    test_arm ea fl d =
+        acted (Si TestMask) ea regs mem map
+        (into_memory t p pl found 1 4 refl (omega arith) _ (si TestMask (si_of p.text h2)) regs mem map
+        (λ i k e far. let f = found_is found map (length mem) Load 1 _ i k (fl (now_of p)) e in test_comes p pl regs mem map h2 _ i k refl f.1) mem d)
 
-    module _ (found : Look) where
-      pub load_arm : (op : Operand) → action_of code ≡ Known (Rx (Taking op)) → Indexed → NotedLook found map map' (length mem) Load (width_of op) a
-          → (regs' : List ℕ) → Did t p found (loads op p.text p.code mem regs) regs regs' → Turned t p (whole p.text h2 h3) regs mem map regs' mem map'
-      load_arm op ea et h regs' d =
-          acted (Rx (Taking op)) ea regs' mem map'
-          (into_registers t p pl map map' (length mem) Load (bytes_of (width_of op)) (bytes_of (width_of op)) a _ (rx (Taking op) (rx_of p.text h2)) regs mem
-          (λ i k on th far em. load_comes p pl regs mem map map' op h2 a i k (et (now_of p)) on th em far) regs'
-          (did_at t p found map map' (length mem) Load (width_of op) a h _ regs regs' d))
+    pub bits_arm : (l : Logic) → action_of code ≡ Known (Si (BitsByte l)) → ((c : Now) → FieldLook found map (length mem) Store 1 (address_at regs c mem 0 (p.at + 2)))
+        → (mem' : List ℕ) → Did t p found 1 4 (changes_byte l p.text mem) mem mem' → Turned t p (whole p.text h2 h3) regs mem map regs mem' map
+    bits_arm l ea fl mem' d =
+        acted (Si (BitsByte l)) ea regs mem' map
+        (into_memory t p pl found 1 4 refl (omega arith) _ (si (BitsByte l) (si_of p.text h2)) regs mem map
+        (λ i k e far. let f = found_is found map (length mem) Store 1 _ i k (fl (now_of p)) e in bits_comes p pl regs mem map l h2 _ i k refl f.1) mem' d)
 
-      pub store_arm : (w : Width) → action_of code ≡ Known (Rx (Storing w)) → Indexed → NotedLook found map map' (length mem) Store w a
-          → (mem' : List ℕ) → Did t p found (stores w p.text p.code regs mem) mem mem' → Turned t p (whole p.text h2 h3) regs mem map regs mem' map'
-      store_arm w ea et h mem' d =
-          acted (Rx (Storing w)) ea regs mem' map'
-          (into_memory t p pl map map' (length mem) Store (bytes_of w) (bytes_of w) a _ (rx (Storing w) (rx_of p.text h2)) regs mem
-          (λ i k on th far em. store_comes p pl regs mem map map' w h2 a i k (et (now_of p)) on th em far) mem'
-          (did_at t p found map map' (length mem) Store w a h _ mem mem' d))
+    pub put_arm : action_of code ≡ Known (Si MoveByte) → ((c : Now) → FieldLook found map (length mem) Store 1 (address_at regs c mem 0 (p.at + 2)))
+        → (mem' : List ℕ) → Did t p found 1 4 (puts_byte p.text p.code mem) mem mem' → Turned t p (whole p.text h2 h3) regs mem map regs mem' map
+    put_arm ea fl mem' d =
+        acted (Si MoveByte) ea regs mem' map
+        (into_memory t p pl found 1 4 refl (omega arith) _ (si MoveByte (si_of p.text h2)) regs mem map
+        (λ i k e far. let f = found_is found map (length mem) Store 1 _ i k (fl (now_of p)) e in put_comes p pl regs mem map h2 _ i k refl f.1) mem' d)
 
-      pub compare_arm : action_of code ≡ Known (Si CompareByte) → Based → NotedLook found map map' (length mem) Load Byte a
-          → Did t p found (compares_byte p.text mem) mem mem → Turned t p (whole p.text h2 h3) regs mem map regs mem map'
-      compare_arm ea et h d =
-          acted (Si CompareByte) ea regs mem map'
-          (into_memory t p pl map map' (length mem) Load (bytes_of Byte) (bytes_of Byte) a _ (si CompareByte (si_of p.text h2)) regs mem
-          (λ i k on th far em. compare_comes p pl regs mem map map' h2 a i k (et (now_of p)) th em) mem
-          (did_at t p found map map' (length mem) Load Byte a h _ mem mem d))
+    pub fill_arm : action_of code ≡ Known (Rs LoadMultiple) → ((c : Now) → FieldLook found map (length mem) Load 4 (address_at regs c mem 0 (p.at + 2)))
+        → (regs' : List ℕ) → Did t p found (many_of p.text * 4) 4 (fills p.text p.code mem regs) regs regs' → Turned t p (whole p.text h2 h3) regs mem map regs' mem map
+    fill_arm ea fl regs' d =
+        acted (Rs LoadMultiple) ea regs' mem map
+        (into_registers t p pl found (many_of p.text * 4) 4 refl (omega arith) _ (rs LoadMultiple (rs_of p.text h2)) regs mem map
+        (λ i k e far. let f = found_is found map (length mem) Load 4 _ i k (fl (now_of p)) e in fill_comes p pl regs mem map h2 _ i k refl f.0 f.1 far) regs' d)
 
-      pub test_arm : action_of code ≡ Known (Si TestMask) → Based → NotedLook found map map' (length mem) Load Byte a
-          → Did t p found (tests_byte p.text mem) mem mem → Turned t p (whole p.text h2 h3) regs mem map regs mem map'
-      test_arm ea et h d =
-          acted (Si TestMask) ea regs mem map'
-          (into_memory t p pl map map' (length mem) Load (bytes_of Byte) (bytes_of Byte) a _ (si TestMask (si_of p.text h2)) regs mem
-          (λ i k on th far em. test_comes p pl regs mem map map' h2 a i k (et (now_of p)) th em) mem
-          (did_at t p found map map' (length mem) Load Byte a h _ mem mem d))
-
-      pub bits_arm : (l : Logic) → action_of code ≡ Known (Si (BitsByte l)) → Based → NotedLook found map map' (length mem) Store Byte a
-          → (mem' : List ℕ) → Did t p found (changes_byte l p.text mem) mem mem' → Turned t p (whole p.text h2 h3) regs mem map regs mem' map'
-      bits_arm l ea et h mem' d =
-          acted (Si (BitsByte l)) ea regs mem' map'
-          (into_memory t p pl map map' (length mem) Store (bytes_of Byte) (bytes_of Byte) a _ (si (BitsByte l) (si_of p.text h2)) regs mem
-          (λ i k on th far em. bits_comes p pl regs mem map map' l h2 a i k (et (now_of p)) th em) mem'
-          (did_at t p found map map' (length mem) Store Byte a h _ mem mem' d))
-
-      pub put_arm : action_of code ≡ Known (Si MoveByte) → Based → NotedLook found map map' (length mem) Store Byte a
-          → (mem' : List ℕ) → Did t p found (puts_byte p.text p.code mem) mem mem' → Turned t p (whole p.text h2 h3) regs mem map regs mem' map'
-      put_arm ea et h mem' d =
-          acted (Si MoveByte) ea regs mem' map'
-          (into_memory t p pl map map' (length mem) Store (bytes_of Byte) (bytes_of Byte) a _ (si MoveByte (si_of p.text h2)) regs mem
-          (λ i k on th far em. put_comes p pl regs mem map map' h2 a i k (et (now_of p)) th em) mem'
-          (did_at t p found map map' (length mem) Store Byte a h _ mem mem' d))
+    pub spill_arm : action_of code ≡ Known (Rs StoreMultiple) → ((c : Now) → FieldLook found map (length mem) Store 4 (address_at regs c mem 0 (p.at + 2)))
+        → (mem' : List ℕ) → Did t p found (many_of p.text * 4) 4 (spills p.text p.code regs mem) mem mem' → Turned t p (whole p.text h2 h3) regs mem map regs mem' map
+    spill_arm ea fl mem' d =
+        acted (Rs StoreMultiple) ea regs mem' map
+        (into_memory t p pl found (many_of p.text * 4) 4 refl (omega arith) _ (rs StoreMultiple (rs_of p.text h2)) regs mem map
+        (λ i k e far. let f = found_is found map (length mem) Store 4 _ i k (fl (now_of p)) e in spill_comes p pl regs mem map h2 _ i k refl f.0 f.1 far) mem' d)
 
 -- M D, MVC, CLC: by what came of them
 module _ (p : Here) (pl : Placed p) (regs mem map : List ℕ) where
-  pair_turned : (t : Turn) (map' : List ℕ) (op : PairOp) (a : ℕ) → a ≡ address_at regs (now_of p) mem p.text (p.at + 2) → (regs' : List ℕ)
-      → PairDid t p map map' op a mem regs regs' → Turned t p (rx (PairAndWord op) (rx_of p.text (flat mem (p.at + 2) 2 0))) regs mem map regs' mem map'
+  pair_turned : (t : Turn) (found : Look) (op : PairOp) → ((c : Now) → FieldLook found map (length mem) Load 4 (address_at regs c mem p.text (p.at + 2))) → (regs' : List ℕ)
+      → PairDid t p found op p.text mem regs regs' → Turned t p (rx (PairAndWord op) (rx_of p.text (flat mem (p.at + 2) 2 0))) regs mem map regs' mem map
   unfolding PairDid Turned
-  pair_turned (On at k) map' op a et regs' d = (
-    pair_comes p pl regs mem map map' op (flat mem (p.at + 2) 2 0) a d.i d.reach at k regs' et d.aligned d.there d.marks d.enough d.even d.comes,
-    subst (Stands p.window) (sym d.on) (stands_on p pl 4 refl (omega arith)),
-  )
-  pair_turned (Away q k) map' op a et regs' d = absurd d
-  pair_turned (Undone q k) map' op a et regs' (s, (e, m)) = (s, (e, (refl, m)))
+  pair_turned (On a k) found op fl regs' d =
+      let f = found_is found map (length mem) Load 4 _ d.i d.reach (fl (now_of p)) d.there in (
+        pair_comes p pl regs mem map op (flat mem (p.at + 2) 2 0) _ d.i d.reach a k regs' refl f.0 f.1 d.far d.even d.comes,
+        subst (Stands p.window) (sym d.on) (stands_on p pl 4 refl (omega arith)),
+      )
+  pair_turned (Away q k) found op fl regs' d = absurd d
+  pair_turned (Undone q k) found op fl regs' (s, e) = (s, (e, (refl, refl)))
 
-  pub pair_arm : (t : Turn) (code : ℕ) → op_of p.text ≡ code → (map' : List ℕ) (op : PairOp) → action_of code ≡ Known (Rx (PairAndWord op)) → (a : ℕ)
-      → ((c : Now) → a ≡ address_at regs c mem p.text (p.at + 2)) → (regs' : List ℕ) → PairDid t p map map' op a mem regs regs'
-      → Turned t p (whole p.text (flat mem (p.at + 2) 2 0) (flat mem (p.at + 4) 2 0)) regs mem map regs' mem map'
-  pair_arm t code eo map' op ea a et regs' d =
-      acted t p pl regs mem map code eo (Rx (PairAndWord op)) ea regs' mem map' (pair_turned t map' op a (et (now_of p)) regs' d)
+  pub pair_arm : (t : Turn) (code : ℕ) → op_of p.text ≡ code → (found : Look) (op : PairOp) → action_of code ≡ Known (Rx (PairAndWord op))
+      → ((c : Now) → FieldLook found map (length mem) Load 4 (address_at regs c mem p.text (p.at + 2))) → (regs' : List ℕ) → PairDid t p found op p.text mem regs regs'
+      → Turned t p (whole p.text (flat mem (p.at + 2) 2 0) (flat mem (p.at + 4) 2 0)) regs mem map regs' mem map
+  pair_arm t code eo found op ea fl regs' d = acted t p pl regs mem map code eo (Rx (PairAndWord op)) ea regs' mem map (pair_turned t found op fl regs' d)
 
   next_six : counter_at p.window (p.at + 6) ≡ ahead (cpu_of regs (now_of p)) 6
   next_six = sym (ahead_on p pl regs 6 (omega arith))
@@ -193,7 +177,7 @@ module _ (p : Here) (pl : Placed p) (regs mem map : List ℕ) where
   unfolding Moved Turned ss
   move_turned (On a k) mem' map' d = (
     rw (d.on, d.still, next_six)
-        (move_ended regs mem map (now_of p) _ _ (suc (byte_of p.text)) (omega arith) (At d.moved.i d.moved.reach) (sym d.moved.there) mem' map' d.moved.held _ refl),
+        (move_ended regs mem map (now_of p) _ _ (suc (byte_of p.text)) (omega arith) (At d.i d.reach) (sym d.there) mem' map' d.held _ refl),
     subst (Stands p.window) (sym d.on) (stands_on p pl 6 refl (omega arith)),
   )
   move_turned (Away q k) mem' map' d = absurd d

@@ -1,5 +1,5 @@
 // Rows that branch. Whether the counter is odd, or has left the window, is asked only where a branch goes.
-ghost use Rattle.std.specs.Prelude.{◌≡◌, ◌+◌, ◌≤◌, ◌%◌, length, get_or};
+ghost use Rattle.std.specs.Prelude.{◌≡◌, Bool, true, false, ◌+◌, ◌≤◌, ◌%◌, length, get_or};
 ghost use Rattle.words.specs.Pick.{pick};
 ghost use Rattle.code.specs.declared.Branch.TheVariants.{OnCondition, AndLink, OnCount};
 ghost use Rattle.code.specs.declared.RsAction.TheVariants.{BranchHigh, BranchLowEqual};
@@ -26,7 +26,7 @@ fn go(w: Window, to: u32, code: u32) -> Turn
             }
         }
     }
-    Turn::Away(to as usize, code)
+    Turn::Away(to, code)
 }
 
 // The address in R2.

@@ -1,7 +1,6 @@
 // The quick way of a run, beside the plain step. An instruction is done whole, or not at all, where everything is ordinary: it lies in the
-// run's window, every page that it touches lies in memory to its end, and nothing is refused. A mark that is missing is set where the row is
-// sure to be done. What is done is the definition's step; of whatever else comes it says `Undone`, and the plain step does it. A row that is
-// missing here is slow, and never wrong.
+// run's window, every page that it touches has the marks of the access already, and nothing is refused. What is done is the definition's
+// step; of whatever else comes it says `Undone`, and the plain step does it. A row that is missing here is slow, and never wrong.
 #![tactic(auto)]
 
 pub mod branches; // branches.rt: rows that branch
@@ -28,13 +27,12 @@ pub struct Window {
 
 // An instruction was done, and the next one lies at this place in memory, with this code; or it was done, and the counter, here, has left
 // the window; or nothing was done, and counter and code are handed back as they were. (Said again, they need not be kept beside the
-// answer: measured, five instructions in each of the guest's. Each has the same two kinds of number: with others, what a case does not
-// use would be carried round the loop, three more.)
+// answer: measured, five instructions in each of the guest's.)
 #[derive(Clone, Copy)]
 pub enum Turn {
     On(usize, u32),
-    Away(usize, u32),
-    Undone(usize, u32),
+    Away(u32, u32),
+    Undone(u32, u32),
 }
 
 // Where a run is in its window: the instruction's place in memory and its first halfword, and the state's scalars but for the counter.
@@ -71,5 +69,5 @@ pub fn undone(p: Here) -> Turn
     requires { Placed p }
     ensures { result ≡ Undone (counter_at p.window p.at) p.code }
 {
-    Turn::Undone(counter(p) as usize, p.code)
+    Turn::Undone(counter(p), p.code)
 }

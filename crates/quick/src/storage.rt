@@ -1,26 +1,27 @@
-// Rows with one operand in storage. Of most what `source` or `sink` found is taken, its marks set already, since they are then sure to be
-// done; the others look up for themselves, and set the marks when all is done. The work is by real address.
-ghost use Rattle.std.specs.Prelude.{◌*◌, ◌≡◌, length};
-ghost use Rattle.pages.specs.declared.Access.TheVariants.{Load, Store};
+// Rows with one operand in storage: what `field` found is taken, or the row is not done. The work is by real address, and sets no mark.
+ghost use Rattle.std.specs.Prelude.{◌*◌, length};
 ghost use Rattle.code.specs.declared.Operand.TheVariants.{WordWith, HalfWith, ByteInserted};
 ghost use Rattle.machine.specs.Fields.{bytes_of};
-ghost use Rattle.quick.specs.Turns.{Placed, Lies, Did, DidAt, PairDid};
+ghost use Rattle.quick.specs.Turns.{Placed, Lies, Did, Paired, PairDid};
 ghost use Rattle.quick.specs.Work.{loads, stores, compares_byte, tests_byte, changes_byte, puts_byte, many_of, fills, spills};
 
-use crate::{Here, Turn, places, state, undone};
+use crate::{Here, Turn, state, undone};
 use actions::{Out, registers};
 use code::Width;
-use pages::{Access, Look};
+use pages::{Cause, Look};
 use words::{Alu, Logic, PairOp};
 
 // L A S C AL SL CL N O X.
 pub fn word(regs: &mut [u32], mem: &[u8], p: Here, op: Alu, found: Look) -> Turn
-    requires { Placed p × Lies found 4 (length mem.now) }
-    ensures { Did result p found (loads (WordWith op) p.text p.code mem.now regs.old) regs.old regs.new }
+    requires { Placed p × Lies found (length mem.now) }
+    ensures { Did result p found 4 4 (loads (WordWith op) p.text p.code mem.now regs.old) regs.old regs.new }
 {
-    let Look::At(i, _) = found else {
+    let Look::At(i, reach) = found else {
         return undone(p);
     };
+    if reach < 4 {
+        return undone(p);
+    }
     let r = (p.text / 16 % 16) as u8;
     let v = fields::flat::word_of(mem, i);
     let result = arithmetic::combine(op, registers::reg(regs, r), v, p.code);
@@ -30,12 +31,15 @@ pub fn word(regs: &mut [u32], mem: &[u8], p: Here, op: Alu, found: Look) -> Turn
 
 // LH AH SH CH MH.
 pub fn half(regs: &mut [u32], mem: &[u8], p: Here, op: Alu, found: Look) -> Turn
-    requires { Placed p × Lies found 2 (length mem.now) }
-    ensures { Did result p found (loads (HalfWith op) p.text p.code mem.now regs.old) regs.old regs.new }
+    requires { Placed p × Lies found (length mem.now) }
+    ensures { Did result p found 2 4 (loads (HalfWith op) p.text p.code mem.now regs.old) regs.old regs.new }
 {
-    let Look::At(i, _) = found else {
+    let Look::At(i, reach) = found else {
         return undone(p);
     };
+    if reach < 2 {
+        return undone(p);
+    }
     let r = (p.text / 16 % 16) as u8;
     let v = arithmetic::widen(fields::flat::half_of(mem, i));
     let result = arithmetic::combine(op, registers::reg(regs, r), v, p.code);
@@ -45,12 +49,15 @@ pub fn half(regs: &mut [u32], mem: &[u8], p: Here, op: Alu, found: Look) -> Turn
 
 // IC.
 pub fn insert(regs: &mut [u32], mem: &[u8], p: Here, found: Look) -> Turn
-    requires { Placed p × Lies found 1 (length mem.now) }
-    ensures { Did result p found (loads ByteInserted p.text p.code mem.now regs.old) regs.old regs.new }
+    requires { Placed p × Lies found (length mem.now) }
+    ensures { Did result p found 1 4 (loads ByteInserted p.text p.code mem.now regs.old) regs.old regs.new }
 {
-    let Look::At(i, _) = found else {
+    let Look::At(i, reach) = found else {
         return undone(p);
     };
+    if reach < 1 {
+        return undone(p);
+    }
     let r = (p.text / 16 % 16) as u8;
     let b = fields::flat::byte_of(mem, i);
     let x = registers::reg(regs, r);
@@ -60,12 +67,15 @@ pub fn insert(regs: &mut [u32], mem: &[u8], p: Here, found: Look) -> Turn
 
 // ST STH STC.
 pub fn store(regs: &[u32], mem: &mut [u8], p: Here, width: Width, found: Look) -> Turn
-    requires { Placed p × Lies found (bytes_of width) (length mem.old) }
-    ensures { Did result p found (stores width p.text p.code regs.now mem.old) mem.old mem.new }
+    requires { Placed p × Lies found (length mem.old) }
+    ensures { Did result p found (bytes_of width) 4 (stores width p.text p.code regs.now mem.old) mem.old mem.new }
 {
-    let Look::At(i, _) = found else {
+    let Look::At(i, reach) = found else {
         return undone(p);
     };
+    if reach < fields::bytes_of(width) {
+        return undone(p);
+    }
     let v = registers::reg(regs, (p.text / 16 % 16) as u8);
     fields::flat::put_field(mem, i, width, v);
     Turn::On(p.at + 4, p.code)
@@ -73,12 +83,15 @@ pub fn store(regs: &[u32], mem: &mut [u8], p: Here, width: Width, found: Look) -
 
 // CLI.
 pub fn compare(mem: &[u8], p: Here, found: Look) -> Turn
-    requires { Placed p × Lies found 1 (length mem.now) }
-    ensures { Did result p found (compares_byte p.text mem.now) mem.now mem.now }
+    requires { Placed p × Lies found (length mem.now) }
+    ensures { Did result p found 1 4 (compares_byte p.text mem.now) mem.now mem.now }
 {
-    let Look::At(i, _) = found else {
+    let Look::At(i, reach) = found else {
         return undone(p);
     };
+    if reach < 1 {
+        return undone(p);
+    }
     let b = fields::flat::byte_of(mem, i);
     Turn::On(
         p.at + 4,
@@ -88,24 +101,30 @@ pub fn compare(mem: &[u8], p: Here, found: Look) -> Turn
 
 // TM.
 pub fn test(mem: &[u8], p: Here, found: Look) -> Turn
-    requires { Placed p × Lies found 1 (length mem.now) }
-    ensures { Did result p found (tests_byte p.text mem.now) mem.now mem.now }
+    requires { Placed p × Lies found (length mem.now) }
+    ensures { Did result p found 1 4 (tests_byte p.text mem.now) mem.now mem.now }
 {
-    let Look::At(i, _) = found else {
+    let Look::At(i, reach) = found else {
         return undone(p);
     };
+    if reach < 1 {
+        return undone(p);
+    }
     let b = fields::flat::byte_of(mem, i);
     Turn::On(p.at + 4, arithmetic::mask_code(b, (p.text % 256) as u8))
 }
 
 // NI OI XI.
 pub fn bits(mem: &mut [u8], p: Here, op: Logic, found: Look) -> Turn
-    requires { Placed p × Lies found 1 (length mem.old) }
-    ensures { Did result p found (changes_byte op p.text mem.old) mem.old mem.new }
+    requires { Placed p × Lies found (length mem.old) }
+    ensures { Did result p found 1 4 (changes_byte op p.text mem.old) mem.old mem.new }
 {
-    let Look::At(i, _) = found else {
+    let Look::At(i, reach) = found else {
         return undone(p);
     };
+    if reach < 1 {
+        return undone(p);
+    }
     let b = fields::flat::byte_of(mem, i);
     let v = arithmetic::logic_byte(op, b, (p.text % 256) as u8);
     fields::flat::put_byte(mem, i, v);
@@ -114,22 +133,24 @@ pub fn bits(mem: &mut [u8], p: Here, op: Logic, found: Look) -> Turn
 
 // MVI.
 pub fn put(mem: &mut [u8], p: Here, found: Look) -> Turn
-    requires { Placed p × Lies found 1 (length mem.old) }
-    ensures { Did result p found (puts_byte p.text p.code mem.old) mem.old mem.new }
+    requires { Placed p × Lies found (length mem.old) }
+    ensures { Did result p found 1 4 (puts_byte p.text p.code mem.old) mem.old mem.new }
 {
-    let Look::At(i, _) = found else {
+    let Look::At(i, reach) = found else {
         return undone(p);
     };
+    if reach < 1 {
+        return undone(p);
+    }
     fields::flat::put_byte(mem, i, (p.text % 256) as u8);
     Turn::On(p.at + 4, p.code)
 }
 
 // LM.
-pub fn load_many(regs: &mut [u32], mem: &[u8], map: &mut [u16], p: Here, a: u32) -> Turn
-    requires { Placed p × (length map.old ≡ 512) }
-    ensures { DidAt result p map.old map.new (length mem.now) Load 4 (many_of p.text * 4) a (fills p.text p.code mem.now regs.old) regs.old regs.new }
+pub fn load_many(regs: &mut [u32], mem: &[u8], p: Here, found: Look) -> Turn
+    requires { Placed p × Lies found (length mem.now) }
+    ensures { Did result p found (many_of p.text * 4) 4 (fills p.text p.code mem.now regs.old) regs.old regs.new }
 {
-    let found = places::place(map, mem.len(), Access::Load, Width::Word, a);
     let Look::At(i, reach) = found else {
         return undone(p);
     };
@@ -139,16 +160,14 @@ pub fn load_many(regs: &mut [u32], mem: &[u8], map: &mut [u16], p: Here, a: u32)
         return undone(p);
     }
     rs_ss::rs::fill_at(regs, mem, n, f.r1, i);
-    lookup::mark(map, Access::Load, a);
     Turn::On(p.at + 4, p.code)
 }
 
 // STM.
-pub fn store_many(regs: &[u32], mem: &mut [u8], map: &mut [u16], p: Here, a: u32) -> Turn
-    requires { Placed p × (length map.old ≡ 512) }
-    ensures { DidAt result p map.old map.new (length mem.old) Store 4 (many_of p.text * 4) a (spills p.text p.code regs.now mem.old) mem.old mem.new }
+pub fn store_many(regs: &[u32], mem: &mut [u8], p: Here, found: Look) -> Turn
+    requires { Placed p × Lies found (length mem.old) }
+    ensures { Did result p found (many_of p.text * 4) 4 (spills p.text p.code regs.now mem.old) mem.old mem.new }
 {
-    let found = places::place(map, mem.len(), Access::Store, Width::Word, a);
     let Look::At(i, reach) = found else {
         return undone(p);
     };
@@ -158,20 +177,32 @@ pub fn store_many(regs: &[u32], mem: &mut [u8], map: &mut [u16], p: Here, a: u32
         return undone(p);
     }
     rs_ss::rs::spill_at(regs, mem, n, f.r1, i);
-    lookup::mark(map, Access::Store, a);
     Turn::On(p.at + 4, p.code)
 }
 
-// M. (Each of the two has one user, so that the compiler puts it into the loop.)
-pub fn multiply(regs: &mut [u32], mem: &[u8], map: &mut [u16], p: Here, a: u32) -> Turn
-    requires { Placed p × (length map.old ≡ 512) }
-    ensures { PairDid result p map.old map.new PairOp.Multiply a mem.now regs.old regs.new }
+// A word that was found for the pair of an even register.
+fn paired(p: Here, found: Look) -> Look
+    ensures { Paired result p found }
 {
-    if p.text / 16 % 2 != 0 {
-        return undone(p);
+    let Look::At(i, reach) = found else {
+        return found;
+    };
+    if reach < 4 {
+        return Look::Refused(Cause::Addressing, 0);
     }
-    let found = places::place(map, mem.len(), Access::Load, Width::Word, a);
-    let Look::At(i, _) = found else {
+    if p.text / 16 % 2 != 0 {
+        return Look::Refused(Cause::Addressing, 0);
+    }
+    Look::At(i, reach)
+}
+
+// M. (Each of the two has one user, so that the compiler puts it into the loop.)
+pub fn multiply(regs: &mut [u32], mem: &[u8], p: Here, found: Look) -> Turn
+    requires { Placed p × Lies found (length mem.now) }
+    ensures { PairDid result p found PairOp.Multiply p.text mem.now regs.old regs.new }
+{
+    let place = paired(p, found);
+    let Look::At(i, _) = place else {
         return undone(p);
     };
     let b = fields::flat::word_of(mem, i);
@@ -180,20 +211,16 @@ pub fn multiply(regs: &mut [u32], mem: &[u8], map: &mut [u16], p: Here, a: u32) 
     let Out::Done(n) = out else {
         return undone(p);
     };
-    lookup::mark(map, Access::Load, a);
     Turn::On(p.at + 4, n.code)
 }
 
 // D, where there is a quotient.
-pub fn divide(regs: &mut [u32], mem: &[u8], map: &mut [u16], p: Here, a: u32) -> Turn
-    requires { Placed p × (length map.old ≡ 512) }
-    ensures { PairDid result p map.old map.new PairOp.Divide a mem.now regs.old regs.new }
+pub fn divide(regs: &mut [u32], mem: &[u8], p: Here, found: Look) -> Turn
+    requires { Placed p × Lies found (length mem.now) }
+    ensures { PairDid result p found PairOp.Divide p.text mem.now regs.old regs.new }
 {
-    if p.text / 16 % 2 != 0 {
-        return undone(p);
-    }
-    let found = places::place(map, mem.len(), Access::Load, Width::Word, a);
-    let Look::At(i, _) = found else {
+    let place = paired(p, found);
+    let Look::At(i, _) = place else {
         return undone(p);
     };
     let b = fields::flat::word_of(mem, i);
@@ -202,6 +229,5 @@ pub fn divide(regs: &mut [u32], mem: &[u8], map: &mut [u16], p: Here, a: u32) ->
     let Out::Done(n) = out else {
         return undone(p);
     };
-    lookup::mark(map, Access::Load, a);
     Turn::On(p.at + 4, n.code)
 }

@@ -16,20 +16,11 @@ returns-in_default c = compared_not c.args.p _ c.undone.ensures _ _ _ _ _ _ refl
 pub returns-in_default-other : goal.returns-in_default-other
 returns-in_default-other c = compared_not c.args.p _ c.undone-in_default-other.ensures _ _ _ _ _ _ refl
 
-pub compare_short-k-requires : goal.compare_short-k-requires
-compare_short-k-requires c = (omega arith, c.if-n-le16.true, marked_room _ _ _ _ _ _ _ (marked_is _ c.args.map.now (length c.args.mem.now) Load c.address-first.result _ _ c.look_marked-one.ensures c.in-At.is) c.if-n-room.true, marked_room _ _ _ _ _ _ _ (marked_is _ c.args.map.now (length c.args.mem.now) Load c.address-second.result _ _ c.look_marked-other.ensures c.in-At-other.is) c.if-n-more.true)
-
-pub overflow_add-result : goal.overflow_add-result
-overflow_add-result c = record { fits = omega (arith, place_fits c.args.p c.requires.0) }
-
-pub returns-then-n-le16 : goal.returns-then-n-le16
-returns-then-n-le16 c = compared_at _ c.args.p c.address-first.result _ c.address-second.result _ _ c.args.mem.now c.args.map.now _ (c.address-first.ensures (now_of c.args.p)) (c.address-second.ensures (now_of c.args.p)) (compared_flat c.args.p c.address-first.result c.address-second.result (c.args.p.text % 256 + 1) (c.args.p.text % 256) (add-one _) c.args.mem.now c.args.map.now _ _ _ _ c.if-n-room.true c.if-n-more.true (marked_is _ c.args.map.now (length c.args.mem.now) Load c.address-second.result _ _ c.look_marked-other.ensures c.in-At-other.is) (marked_is _ c.args.map.now (length c.args.mem.now) Load c.address-first.result _ _ c.look_marked-one.ensures c.in-At.is) _ c.compare_short-k.ensures)
-
 pub compare_flat-k-requires : goal.compare_flat-k-requires
 compare_flat-k-requires c = (marked_room _ _ _ _ _ _ _ (marked_is _ c.args.map.now (length c.args.mem.now) Load c.address-first.result _ _ c.look_marked-one.ensures c.in-At.is) c.if-n-room.true, marked_room _ _ _ _ _ _ _ (marked_is _ c.args.map.now (length c.args.mem.now) Load c.address-second.result _ _ c.look_marked-other.ensures c.in-At-other.is) c.if-n-more.true)
 
-pub overflow_add-result-then-n-more : goal.overflow_add-result-then-n-more
-overflow_add-result-then-n-more c = record { fits = omega (arith, place_fits c.args.p c.requires.0) }
+pub overflow_add-result : goal.overflow_add-result
+overflow_add-result c = record { fits = omega (arith, place_fits c.args.p c.requires.0) }
 
 pub returns-then-n-more : goal.returns-then-n-more
 returns-then-n-more c = compared_at _ c.args.p c.address-first.result _ c.address-second.result _ _ c.args.mem.now c.args.map.now _ (c.address-first.ensures (now_of c.args.p)) (c.address-second.ensures (now_of c.args.p)) (compared_flat c.args.p c.address-first.result c.address-second.result (c.args.p.text % 256 + 1) (c.args.p.text % 256) (add-one _) c.args.mem.now c.args.map.now _ _ _ _ c.if-n-room.true c.if-n-more.true (marked_is _ c.args.map.now (length c.args.mem.now) Load c.address-second.result _ _ c.look_marked-other.ensures c.in-At-other.is) (marked_is _ c.args.map.now (length c.args.mem.now) Load c.address-first.result _ _ c.look_marked-one.ensures c.in-At.is) _ c.compare_flat-k.ensures)

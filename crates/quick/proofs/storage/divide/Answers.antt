@@ -2,18 +2,15 @@ use mathlib.Core.Path.{refl}
 use native.Mathlib.Omega.{arith}
 use Rattle.words.specs.declared.PairOp.TheVariants.{Divide}
 use Rattle.quick.proofs.Onward.{place_fits}
-use Rattle.quick.proofs.Answered.{out_stopped, place_is, place_lies}
-use Rattle.quick.proofs.Loaded.{pair_not, pair_on}
+use Rattle.quick.proofs.Answered.{out_stopped}
+use Rattle.quick.proofs.Loaded.{pair_not, pair_room, pair_on}
 use Rattle.quick.proofs.storage.divide.Goals as goal
 
-pub returns-then-p-ne0 : goal.returns-then-p-ne0
-returns-then-p-ne0 c = pair_not c.args.p _ c.undone.ensures _ _ _ _ _ _ refl
-
 pub returns-in_default : goal.returns-in_default
-returns-in_default c = pair_not c.args.p _ c.undone-in_default.ensures _ _ _ _ _ _ refl
+returns-in_default c = pair_not c.args.p _ c.undone.ensures _ _ _ _ _ _ refl
 
 pub word_of-b-requires : goal.word_of-b-requires
-word_of-b-requires c = place_lies _ _ _ _ _ _ c.place-found.ensures _ _ 4 c.in-At.is (place_is _ _ _ _ _ _ c.place-found.ensures _ _ c.in-At.is).1.1
+word_of-b-requires c = pair_room c.args.p c.args.found _ _ _ c.paired-place.ensures c.in-At.is _ c.requires.1
 
 pub returns-in_default-out : goal.returns-in_default-out
 returns-in_default-out c = pair_not c.args.p _ c.undone-in_default-out.ensures _ _ _ _ _ _ (out_stopped _ _ _ _ _ _ c.work-out.ensures c.in_default-out.is)
@@ -22,4 +19,4 @@ pub overflow_add-result : goal.overflow_add-result
 overflow_add-result c = record { fits = omega (arith, place_fits c.args.p c.requires.0) }
 
 pub returns : goal.returns
-returns c = pair_on c.args.p c.requires.0 _ _ Divide _ c.args.mem.now c.args.regs.now _ _ _ _ c.place-found.ensures c.in-At.is c.mark.ensures c.if-p-ne0.false _ c.word_of-b.ensures _ _ c.in-Done.is _ c.state.ensures c.work-out.ensures
+returns c = pair_on c.args.p c.requires.0 c.args.found _ _ _ c.paired-place.ensures c.in-At.is Divide c.args.mem.now c.args.regs.now _ _ c.word_of-b.ensures _ _ c.in-Done.is _ c.state.ensures c.work-out.ensures
