@@ -11,10 +11,10 @@
 //     LOOK number, real address or place, reach
 //
 // The functions that put a part of it hand back the place after it; an outcome has room.
-ghost use Rattle.std.specs.Prelude.{◌<◌};
+ghost use Rattle.std.specs.Prelude.{◌-◌, ◌^◌, ◌<◌, ◌≤◌};
 
 use machine::Reply;
-use printing::digits::{digit_at, put_decimal, put_digits};
+use printing::digits::{put_decimal, put_digits, without};
 use printing::lines::{last_decimal, named};
 use printing::writing::{put, put_all};
 use streams::Course;
@@ -71,11 +71,15 @@ fn checksum(mem: &[u8]) -> u64 {
     sum
 }
 
-// How many digits a number of up to twenty has in decimal, with no leading zero.
-fn width(v: usize) -> usize {
+// How many digits a number has in decimal, with no leading zero: at most twenty.
+fn width(v: usize) -> usize
+    ensures one { 0 < result }
+    ensures enough { v < 10 ^ result }
+    ensures needed { 1 < result → 10 ^ (result - 1) ≤ v }
+{
     let mut left = 20;
     while left > 1 {
-        if digit_at(v, 10, left - 1) != b'0' {
+        if without(v, 10, left - 1) > 0 {
             return left;
         }
         left -= 1;
