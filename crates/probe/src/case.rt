@@ -83,9 +83,9 @@ pub fn regs_of(bytes: &[u8; 1346], at: usize) -> [u32; 32]
     regs
 }
 
-fn take_piece(mem: &mut [u8]) -> Course {
+fn take_piece(rt: &HostRuntime, mem: &mut [u8]) -> Course {
     let mut head = [0u8; 5];
-    let course = streams::fill_within(&mut head);
+    let course = streams::fill_within(rt, &mut head);
     if !streams::is_fine(course) {
         return course;
     }
@@ -94,14 +94,14 @@ fn take_piece(mem: &mut [u8]) -> Course {
     if mem.len() < to {
         return Course::Malformed;
     }
-    streams::fill_within(&mut mem[from..to])
+    streams::fill_within(rt, &mut mem[from..to])
 }
 
 // Memory comes as zeros.
-pub fn take_memory(mem: &mut [u8], pieces: u32) -> Course {
+pub fn take_memory(rt: &HostRuntime, mem: &mut [u8], pieces: u32) -> Course {
     let mut left = pieces;
     while left > 0 {
-        let course = take_piece(mem);
+        let course = take_piece(rt, mem);
         if !streams::is_fine(course) {
             return course;
         }

@@ -34,14 +34,15 @@ fn access_of(number: u32) -> Access {
 }
 
 // A look-up: it changes nothing, and its answer is told whole.
-fn look(map: &[u16], size: usize, s: Scalars) -> Course {
+fn look(rt: &HostRuntime, map: &[u16], size: usize, s: Scalars) -> Course {
     if s.code > 2 {
         return Course::Malformed;
     }
     let found = lookup::look_up(map, size, access_of(s.code), s.pc);
     match found {
-        Look::At(real, reach) => told::write_look(0, real, reach),
+        Look::At(real, reach) => told::write_look(rt, 0, real, reach),
         Look::Refused(cause, place) => told::write_look(
+            rt,
             actions::number_of(cause),
             place as usize,
             0,
@@ -72,7 +73,7 @@ fn reply_of(out: Out, s: Scalars) -> Reply {
 }
 
 // The move or compare at the counter, byte by byte. Its code pages are taken to have their marks.
-fn plain(mem: &mut [u8], map: &mut [u16], regs: &[u32], s: Scalars) -> Course {
+fn plain(rt: &HostRuntime, mem: &mut [u8], map: &mut [u16], regs: &[u32], s: Scalars) -> Course {
     let h1 = fields::read_half(mem, map, s.pc);
     let h2 = fields::read_half(mem, map, lookup::past_of(s.pc, 2));
     let h3 = fields::read_half(mem, map, lookup::past_of(s.pc, 4));
@@ -94,27 +95,34 @@ fn plain(mem: &mut [u8], map: &mut [u16], regs: &[u32], s: Scalars) -> Course {
     };
     let split = decode::split_ss(h1, h2, h3);
     let out = rs_ss::plain::execute(regs, mem, map, c, action, split);
-    told::write(reply_of(out, s), regs, map, mem)
+    told::write(rt, reply_of(out, s), regs, map, mem)
 }
 
 // A case whose lists stand: its pieces, and the call.
-fn finish(mem: &mut [u8], map: &mut [u16], regs: &mut [u32], kind: u32, s: Scalars) -> Course {
-    let course = case::take_memory(mem, s.pieces);
+fn finish(
+    rt: &HostRuntime,
+    mem: &mut [u8],
+    map: &mut [u16],
+    regs: &mut [u32],
+    kind: u32,
+    s: Scalars,
+) -> Course {
+    let course = case::take_memory(rt, mem, s.pieces);
     if !streams::is_fine(course) {
         return course;
     }
     if kind == 2 {
-        return look(map, mem.len(), s);
+        return look(rt, map, mem.len(), s);
     }
     if kind == 3 {
-        return plain(mem, map, regs, s);
+        return plain(rt, mem, map, regs, s);
     }
     let reply = call(mem, map, regs, kind == 1, s);
-    told::write(reply, regs, map, mem)
+    told::write(rt, reply, regs, map, mem)
 }
 
 // A case whose head is good, with the bytes between its head and its pieces. What it does not name is zero.
-fn answer(head: Head, bytes: &[u8; 1346]) -> Course
+fn answer(rt: &HostRuntime, head: Head, bytes: &[u8; 1346]) -> Course
     requires { (head.mem ≤ 270336) × (head.map ≤ 600) × (head.regs ≤ 32) }
 {
     let m = head.mem;
@@ -125,6 +133,7 @@ fn answer(head: Head, bytes: &[u8; 1346]) -> Course
     let mut regs = case::regs_of(bytes, 2 * w);
     let scalars = case::scalars_of(bytes, 2 * w + 4 * r);
     finish(
+        rt,
         &mut mem[0..m],
         &mut map[0..w],
         &mut regs[0..r],
@@ -134,7 +143,7 @@ fn answer(head: Head, bytes: &[u8; 1346]) -> Course
 }
 
 // A case after its head.
-fn answer_to(head: Head) -> Course {
+fn answer_to(rt: &HostRuntime, head: Head) -> Course {
     if head.kind > 3 {
         return Course::Malformed;
     }
@@ -149,28 +158,28 @@ fn answer_to(head: Head) -> Course {
     }
     let mut bytes = [0u8; 1346];
     let n = 2 * head.map + 4 * head.regs + 18;
-    let course = streams::fill_within(&mut bytes[0..n]);
+    let course = streams::fill_within(rt, &mut bytes[0..n]);
     if !streams::is_fine(course) {
         return course;
     }
-    answer(head, &bytes)
+    answer(rt, head, &bytes)
 }
 
 // The n-th case; whether to go on.
-fn turn(n: u64) -> bool {
+fn turn(rt: &HostRuntime, n: u64) -> bool {
     let mut bytes = [0u8; 8];
-    let mut course = streams::fill(&mut bytes);
+    let mut course = streams::fill(rt, &mut bytes);
     if streams::is_fine(course) {
-        course = answer_to(case::head_of(&bytes));
+        course = answer_to(rt, case::head_of(&bytes));
     }
-    streams::tell(b"probe", b"case", n, course);
+    streams::tell(rt, b"probe", b"case", n, course);
     streams::is_fine(course)
 }
 
-fn main() {
+fn main(rt: HostRuntime) {
     // Nothing says that the input ends, so the cases are counted up to a number that no run reaches.
     let mut n: u64 = 1;
-    while n < u64::MAX && turn(n) {
+    while n < u64::MAX && turn(&rt, n) {
         n += 1;
     }
 }

@@ -11,10 +11,10 @@
 //     LOOK number, real address or place, reach
 //
 // The functions that put a part of it hand back the place after it; an outcome has room.
-ghost use Rattle.std.specs.Prelude.{◌<◌};
+ghost use Rattle.std.specs.Prelude.{◌-◌, ◌^◌, ◌<◌, ◌≤◌};
 
 use machine::Reply;
-use printing::digits::put_decimal;
+use printing::digits::{put_decimal, put_digits, without};
 use printing::lines::{last_decimal, named};
 use printing::writing::{put, put_all};
 use streams::Course;
@@ -71,28 +71,43 @@ fn checksum(mem: &[u8]) -> u64 {
     sum
 }
 
+// How many digits a number has in decimal, with no leading zero: at most twenty.
+fn width(v: usize) -> usize
+    ensures one { 0 < result }
+    ensures enough { v < 10 ^ result }
+    ensures needed { 1 < result → 10 ^ (result - 1) ≤ v }
+{
+    let mut left = 20;
+    while left > 1 {
+        if without(v, 10, left - 1) > 0 {
+            return left;
+        }
+        left -= 1;
+    }
+    left
+}
+
 fn put_memory(out: &mut [u8], at: usize, mem: &[u8]) -> usize {
-    let mut text = [0u8; 20];
-    let k = io::decimal(checksum(mem), &mut text);
+    let sum = checksum(mem) as usize;
     let one = put_all(out, at, b"MEMORY\t");
-    let two = put_all(out, one, &text[..k]);
+    let two = put_digits(out, one, sum, 10, width(sum));
     put(out, two, b'\n')
 }
 
-pub fn write_look(number: u32, place: usize, reach: u32) -> Course {
+pub fn write_look(rt: &HostRuntime, number: u32, place: usize, reach: u32) -> Course {
     let mut out = [0u8; 64];
     let one = named(&mut out, 0, b"LOOK", number as usize);
     let two = put_decimal(&mut out, one, place);
     let three = last_decimal(&mut out, two, reach as usize);
-    streams::write(&out, three)
+    streams::write(rt, &out, three)
 }
 
-pub fn write(r: Reply, regs: &[u32], map: &[u16], mem: &[u8]) -> Course {
+pub fn write(rt: &HostRuntime, r: Reply, regs: &[u32], map: &[u16], mem: &[u8]) -> Course {
     let mut out = [0u8; 8192];
     let one = put_line(&mut out, 0, b"ANSWER", r.number, r.place, r.count);
     let two = put_line(&mut out, one, b"STATE", r.pc, r.code, r.mask);
     let three = put_regs(&mut out, two, regs);
     let four = put_map(&mut out, three, map);
     let five = put_memory(&mut out, four, mem);
-    streams::write(&out, five)
+    streams::write(rt, &out, five)
 }

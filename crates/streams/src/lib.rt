@@ -1,8 +1,10 @@
 // Standard input and output for the programs: how far a read came, whether a write went through, and one line on standard error
-// where something went wrong. A program cannot set an exit status, so that line is how its caller knows.
+// where something went wrong. The programs always end with status 0, so that line is how their caller knows.
 #![tactic(auto)]
 
 ghost use Rattle.std.specs.Prelude.{◌≤◌, length};
+
+use std::io::Read;
 
 // How reading an entry and writing its answer went.
 #[derive(Clone, Copy)]
@@ -30,23 +32,29 @@ pub fn is_fine(course: Course) -> bool {
 }
 
 // One read. No byte comes at the input's end, nor where the read fails.
-fn take_some(room: &mut [u8]) -> Taken
+fn take_some(rt: &HostRuntime, room: &mut [u8]) -> Taken
     ensures { result.count ≤ length room.old }
 {
-    let got = libc::read(libc::STDIN_FILENO, room);
-    Taken {
-        count: io::count(got, room),
-        is_failed: got < 0,
+    let mut input = rt.stdin();
+    match input.read(room) {
+        Ok(count) => Taken {
+            count: count,
+            is_failed: false,
+        },
+        Err(_) => Taken {
+            count: 0,
+            is_failed: true,
+        },
     }
 }
 
 // Reads until the room is full, the input ends or a read fails.
-pub fn take(room: &mut [u8]) -> Taken
+pub fn take(rt: &HostRuntime, room: &mut [u8]) -> Taken
     ensures { result.count ≤ length room.new }
 {
     let mut done: usize = 0;
     while done < room.len() {
-        let some = take_some(&mut room[done..]);
+        let some = take_some(rt, &mut room[done..]);
         if some.count == 0 {
             return Taken {
                 count: done,
@@ -62,8 +70,8 @@ pub fn take(room: &mut [u8]) -> Taken
 }
 
 // Fills the room with an entry's first bytes.
-pub fn fill(room: &mut [u8]) -> Course {
-    let taken = take(room);
+pub fn fill(rt: &HostRuntime, room: &mut [u8]) -> Course {
+    let taken = take(rt, room);
     if taken.is_failed {
         return Course::Unread;
     }
@@ -77,8 +85,8 @@ pub fn fill(room: &mut [u8]) -> Course {
 }
 
 // Fills the room with an entry's further bytes.
-pub fn fill_within(room: &mut [u8]) -> Course {
-    let course = fill(room);
+pub fn fill_within(rt: &HostRuntime, room: &mut [u8]) -> Course {
+    let course = fill(rt, room);
     match course {
         Course::End => Course::Cut,
         _ => course,
@@ -86,49 +94,50 @@ pub fn fill_within(room: &mut [u8]) -> Course {
 }
 
 // Writes the first n bytes.
-pub fn write(bytes: &[u8], n: usize) -> Course {
+pub fn write(rt: &HostRuntime, bytes: &[u8], n: usize) -> Course {
     if n <= bytes.len() {
-        if io::write_all(libc::STDOUT_FILENO, &bytes[0..n]) {
+        if rt.write_all(&bytes[0..n]).is_ok() {
             return Course::Fine;
         }
     }
     Course::Unwritten
 }
 
-fn say(text: &[u8]) {
-    io::write_all(libc::STDERR_FILENO, text);
+// What standard error does not take is lost.
+fn say(rt: &HostRuntime, text: &[u8]) {
+    let _ = rt.stderr().write_all(text);
 }
 
 // The entry that it was, counted from 1, and the line's end.
-fn say_where(entry: &[u8], n: u64) {
-    say(entry);
-    say(b" ");
-    io::print_decimal(libc::STDERR_FILENO, n);
-    say(b"\n");
+fn say_where(rt: &HostRuntime, entry: &[u8], n: u64) {
+    say(rt, entry);
+    say(rt, b" ");
+    let _ = rt.eprint(n);
+    say(rt, b"\n");
 }
 
 // One line on standard error, if something went wrong.
-pub fn tell(program: &[u8], entry: &[u8], n: u64, course: Course) {
+pub fn tell(rt: &HostRuntime, program: &[u8], entry: &[u8], n: u64, course: Course) {
     match course {
         Course::Fine => {}
         Course::End => {}
         Course::Cut => {
-            say(program);
-            say(b": the input ends within ");
-            say_where(entry, n);
+            say(rt, program);
+            say(rt, b": the input ends within ");
+            say_where(rt, entry, n);
         }
         Course::Malformed => {
-            say(program);
-            say(b": the input is not of the form at ");
-            say_where(entry, n);
+            say(rt, program);
+            say(rt, b": the input is not of the form at ");
+            say_where(rt, entry, n);
         }
         Course::Unread => {
-            say(program);
-            say(b": standard input cannot be read\n");
+            say(rt, program);
+            say(rt, b": standard input cannot be read\n");
         }
         Course::Unwritten => {
-            say(program);
-            say(b": the answer could not be written\n");
+            say(rt, program);
+            say(rt, b": the answer could not be written\n");
         }
     }
 }

@@ -1,6 +1,5 @@
-use mathlib.Core.Path.{◌≡◌}
-use Prim.Native.Nat.{◌-◌}
-use lib.ListN.{length}
+-- The measure is how many bytes are left to list.
+use Rattle.std.proofs.Common.{◌≡◌, ◌-◌, length}
 use Rattle.lister.proofs.list_code.Given as goal
 
 abbrev pub invariant-loop-at : goal.invariant-loop-at

@@ -1,5 +1,5 @@
-use mathlib.Core.Path.{◌≡◌}
-use lib.ListN.{length}
+-- The measure is how many bytes are left.
+use Rattle.std.proofs.Common.{◌≡◌, length}
 use Rattle.many.proofs.skip.Given as goal
 
 abbrev pub invariant-loop-left : goal.invariant-loop-left

@@ -1,4 +1,5 @@
-use Prim.Native.Nat.{◌-◌}
+-- The measure is how many digits there may still be.
+use Rattle.std.proofs.Common.{◌-◌}
 use Rattle.many.proofs.take_length.Given as goal
 
 abbrev pub invariant-loop-digits : goal.invariant-loop-digits

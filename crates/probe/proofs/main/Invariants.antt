@@ -1,4 +1,5 @@
-use Prim.Native.Nat.{◌-◌}
+-- The measure is how far the count may still go.
+use Rattle.std.proofs.Common.{◌-◌}
 use Rattle.probe.proofs.main.Given as goal
 
 abbrev pub invariant-loop-n : goal.invariant-loop-n

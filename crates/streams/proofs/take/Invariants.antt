@@ -1,6 +1,5 @@
-use mathlib.Core.Path.{◌≡◌}
-use Prim.Native.Nat.{◌≤◌, ◌-◌}
-use lib.ListN.{length}
+-- What is read stands within the room. The measure is how much of the room is left.
+use Rattle.std.proofs.Common.{◌≡◌, ◌-◌, ◌≤◌, length}
 use Rattle.streams.proofs.take.Given as goal
 
 abbrev pub invariant-loop-done : goal.invariant-loop-done

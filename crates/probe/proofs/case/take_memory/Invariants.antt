@@ -1,5 +1,5 @@
-use mathlib.Core.Path.{◌≡◌}
-use lib.ListN.{length}
+-- The measure is how many pieces are left.
+use Rattle.std.proofs.Common.{◌≡◌, length}
 use Rattle.probe.proofs.case.take_memory.Given as goal
 
 abbrev pub invariant-loop-left : goal.invariant-loop-left

@@ -1,5 +1,5 @@
-use Prim.Native.Nat.{◌-◌}
-use lib.ListN.{length}
+-- The measure is what is left of the memory.
+use Rattle.std.proofs.Common.{◌-◌, length}
 use Rattle.probe.proofs.told.checksum.Given as goal
 
 abbrev pub invariant-loop-i : goal.invariant-loop-i

@@ -1,6 +1,5 @@
-use mathlib.Core.Path.{◌≡◌}
-use Prim.Native.Nat.{◌-◌}
-use lib.ListN.{length}
+-- The measure is how many page words are left.
+use Rattle.std.proofs.Common.{◌≡◌, ◌-◌, length}
 use Rattle.probe.proofs.told.put_map.Given as goal
 
 abbrev pub invariant-loop-i : goal.invariant-loop-i
