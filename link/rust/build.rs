@@ -14,29 +14,20 @@ fn main() {
 
 /// The folder of the archive, or what to do about it that there is none.
 fn folder() -> Result<PathBuf, String> {
-    let is_x86_64 = env::var("CARGO_CFG_TARGET_ARCH").is_ok_and(|arch| arch == "x86_64");
-    let (place, command) = if is_x86_64 {
-        ("staticlib", "scripts/build outer")
-    } else {
-        (
-            "native",
-            "scripts/native-library outer target/native/libouter.a",
-        )
-    };
     let folder = match env::var_os("SPECTRA46_LIB") {
         // Cargo runs this file and the linker in different folders.
         Some(given) if Path::new(&given).is_relative() => {
             return Err("SPECTRA46_LIB has to name a folder from the root on".to_string());
         }
         Some(given) => PathBuf::from(given),
-        None => top().join("target").join(place),
+        None => top().join("target").join("staticlib"),
     };
     if folder.join("libouter.a").is_file() {
         return Ok(folder);
     }
     let shown = folder.display();
     Err(format!(
-        "no libouter.a in {shown}: run '{command}' at the top of the repository, or let SPECTRA46_LIB name the folder that has it"
+        "no libouter.a in {shown}: run 'scripts/build outer' at the top of the repository, or let SPECTRA46_LIB name the folder that has it"
     ))
 }
 
