@@ -1,4 +1,4 @@
--- Agreement from a premise that speaks of writable pages only would be false: `no-weak-agreement`, by a run of two instructions.
+-- Agreement from a premise that speaks of writable pages only would be false: `no_weak_agreement`, by a run of two instructions.
 use Prim.Native.Nat.{ℕ, ◌+◌, ◌<◌, ◌≤◌}
 use native.Mathlib.Omega.{arith}
 use native.Mathlib.Decide.{ℕ_discrete}
