@@ -25,7 +25,7 @@ use Rattle.engine.specs.declared.Fetched.{Fetched}
 use Rattle.engine.specs.declared.Fetched.TheVariants as T
 use Rattle.engine.specs.Entry.{ran_as, fetched, fetched_says}
 
--- `r ≡ ..` and `now list.exit ≡ ..`: the answer itself
+-- `result ≡ ..` and `list.new ≡ ..`: the answer itself
 pub only : {A : Type 0} (a a' x : A) → a ≡ x → a' ≡ x → a ≡ a'
 only a a' x e e' = e ∙ sym e'
 
@@ -46,7 +46,7 @@ only_lifted r r' m x e e' = go (ltb r m) (ltb r' m) refl refl (sym e ∙ e')
 part : {A X : Type 0} (g : X → A) (a a' : A) (y y' x : X) → g y ≡ a → g y' ≡ a' → y ≡ x → y' ≡ x → a ≡ a'
 part g a a' y y' x p p' e e' = sym p ∙ ap g (only y y' x e e') ∙ p'
 
--- `framed_of (now mem.exit) (now map.exit) ≡ ..`
+-- `framed_of mem.new map.new ≡ ..`
 pub only_framed : (mem map mem' map' : List ℕ) (x : Framed) → framed_of mem map ≡ x → framed_of mem' map' ≡ x
     → (mem ≡ mem') × (map ≡ map')
 only_framed mem map mem' map' x e e' = (
@@ -58,14 +58,14 @@ only_framed mem map mem' map' x e e' = (
 abbrev now_of : Cpu → Now
 now_of c = record { pc = c.pc; code = c.code; mask = c.mask }
 
--- `cpu_of (now regs.exit) r ≡ ..`
+-- `cpu_of regs.new result ≡ ..`
 pub only_cpu : (regs regs' : List ℕ) (n n' : Now) (x : Cpu) → cpu_of regs n ≡ x → cpu_of regs' n' ≡ x → (regs ≡ regs') × (n ≡ n')
 only_cpu regs regs' n n' x e e' = (
   part (λ (c : Cpu). c.regs) regs regs' (cpu_of regs n) (cpu_of regs' n') x refl refl e e',
   part now_of n n' (cpu_of regs n) (cpu_of regs' n') x refl refl e e',
 )
 
--- `done (cpu_of (now regs.exit) r) ≡ ..`
+-- `done (cpu_of regs.new result) ≡ ..`
 pub only_done : (regs regs' : List ℕ) (n n' : Now) (x : Prog Cpu) → done (cpu_of regs n) ≡ x → done (cpu_of regs' n') ≡ x
     → (regs ≡ regs') × (n ≡ n')
 only_done regs regs' n n' x e e' =
@@ -73,7 +73,7 @@ only_done regs regs' n n' x e e' =
     let s : cpu_of regs n ≡ cpu_of regs' n' = cc in
     only_cpu regs regs' n n' (cpu_of regs' n') s refl
 
--- `AnswersTo r (now regs.entry) (now regs.exit) ..`, regs being the registers at entry: no state that is done is a refusal
+-- `AnswersTo result regs.old regs.new ..`, regs being the registers at entry: no state that is done is a refusal
 pub only_answers : (o o' : Out) (regs r r' : List ℕ) (x : Prog Cpu) → AnswersTo o regs r x → AnswersTo o' regs r' x
     → (o ≡ o') × (r ≡ r')
 unfolding AnswersTo
@@ -92,7 +92,7 @@ out_at : ℕ → Result Cpu Framed → Out
 out_at zero r = Stop r.stop r.place
 out_at (suc n) r = Done (now_of r.cpu)
 
--- `told r (now regs.exit) c (framed_of ..) ≡ ..`, c being the state at entry
+-- `told result regs.new c (framed_of ..) ≡ ..`, c being the state at entry
 module _ (c : Now) where
   out_back : (o : Out) (regs : List ℕ) (s : Framed) → out_at (told o regs c s).count (told o regs c s) ≡ o
   unfolding told out_at
@@ -117,7 +117,7 @@ module _ (c : Now) where
     part (λ (r : Result Cpu Framed). r.held) s s' _ _ x (held_back o regs s) (held_back o' regs' s') e e',
   )
 
--- `ran_as r (now regs.exit) (framed_of ..) ≡ ..`
+-- `ran_as result regs.new (framed_of ..) ≡ ..`
 abbrev ran_of : Result Cpu Framed → Ran
 ran_of r = record { number = r.stop; place = r.place; count = r.count; now = now_of r.cpu }
 
@@ -129,7 +129,7 @@ only_ran r r' regs regs' s s' x e e' = (
   part (λ (q : Result Cpu Framed). q.held) s s' _ _ x refl refl e e',
 )
 
--- `outcome r (now mem.exit) (now map.exit) (now regs.exit) ≡ ..`: the public entries
+-- `outcome result mem.new map.new regs.new ≡ ..`: the public entries
 module _ (r r' : Reply) (mem mem' map map' regs regs' : List ℕ) where
   pub only_outcome : (x : Outcome) → outcome r mem map regs ≡ x → outcome r' mem' map' regs' ≡ x
       → (r ≡ r') × (mem ≡ mem') × (map ≡ map') × (regs ≡ regs')
@@ -150,7 +150,7 @@ module _ (r r' : Reply) (mem mem' map map' regs regs' : List ℕ) where
       → (r ≡ r') × (mem ≡ mem') × (map ≡ map') × (regs ≡ regs')
   one_run_answer budget g = only_outcome (run_outcome budget g)
 
--- `fetched r (framed_of (now mem.entry) (now map.exit)) ≡ ..`
+-- `fetched result (framed_of mem.old map.new) ≡ ..`
 abbrev text_of : Answer Fetched Framed → Fetched
 text_of (finished t s) = t
 text_of (refused n a s) = T.Stop n a

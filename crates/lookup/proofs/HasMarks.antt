@@ -15,10 +15,10 @@ use Rattle.pages.specs.declared.Look.{Look}
 use Rattle.pages.specs.declared.Look.TheVariants.{At, Refused}
 use Rattle.pages.specs.Word.{bit_g, page_of, word_of, accessed, written}
 use Rattle.pages.specs.Tests.{is_store}
-use Rattle.pages.specs.Look.{fewer}
+use Rattle.pages.specs.Look.{fewer, look_of}
 use Rattle.pages.specs.Framed.{accessed_at, written_at}
 use Rattle.pages.proofs.Marks.{accessed_old, written_old}
-use Rattle.lookup.specs.Marked.{marked, with_marks, marks_of, WholeLook, MarkedLook}
+use Rattle.lookup.specs.Marked.{marked, with_marks, marks_of, Found, WholeLook, MarkedLook}
 
 pub seen_marked : (map : List ℕ) (pc page : ℕ) → page_of pc ≡ page → bit_g (word_of map page) ≡ 1 → map ≡ accessed_at map pc
 unfolding accessed_at word_of bit_g page_of
@@ -63,16 +63,19 @@ module _ (w : ℕ) (acc : Access) where
     unfolding marked
     w_is = only_stored (is_store acc) (right_of_lem (eqb (bit_g w) 1) (pick (is_store acc) (leb 32768 w) true) (sym em ∙ t))
 
-    pub marked_found : (found : Look) → WholeLook found map n acc a → MarkedLook found map n acc a
-    unfolding WholeLook MarkedLook
-    marked_found (At r k) h =
+    pub marked_found : (r k : ℕ) → At r k ≡ look_of map n acc a → Found map n acc a r k
+    marked_found r k e =
         record {
-          there = h.0;
+          there = sym e;
           accessed = seen_marked map a (page_of a) refl g_is;
           written =
               λ s. stored_marked map a (let h = w_is s in omega (arith, h, ew)) (omega (arith, small, ew));
         }
-    marked_found (Refused c b) h = h
+
+    pub marked_whole : (found : Look) → WholeLook found map n acc a → MarkedLook found map n acc a
+    unfolding WholeLook MarkedLook
+    marked_whole (At r k) h = marked_found r k (sym h.0)
+    marked_whole (Refused c b) h = h
 
     -- they are set already
     pub marks_there : map ≡ marks_of acc map a

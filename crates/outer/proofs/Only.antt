@@ -12,13 +12,13 @@ only_crossed n n' mem mem' map map' regs regs' reply reply' x e e' =
     let s = e ∙ sym e' in
     (ap (λ (c : Crossed). c.number) s, ap (λ (c : Crossed). c.mem) s, ap (λ (c : Crossed). c.map) s, ap (λ (c : Crossed). c.regs) s, ap (λ (c : Crossed). c.reply) s)
 
--- `record { bytes = now room.exit; len = r } ≡ ..`: spectra46_sheet
+-- `record { bytes = room.new; len = result } ≡ ..`: spectra46_sheet
 pub only_sheet : (n n' : ℕ) (room room' : List ℕ) (x : Text) → record { bytes = room; len = n } ≡ x → record { bytes = room'; len = n' } ≡ x
     → (room ≡ room') × (n ≡ n')
 only_sheet n n' room room' x e e' =
     let s = e ∙ sym e' in (ap (λ (t : Text). t.bytes) s, ap (λ (t : Text). t.len) s)
 
--- `crossed_list r (now out.exit) (now told.exit) ≡ ..`: spectra46_list
+-- `crossed_list result out.new told.new ≡ ..`: spectra46_list
 pub only_list : (n n' : ℕ) (out out' told told' : List ℕ) (x : CrossedList) → crossed_list n out told ≡ x → crossed_list n' out' told' ≡ x
     → (n ≡ n') × (out ≡ out') × (told ≡ told')
 only_list n n' out out' told told' x e e' =

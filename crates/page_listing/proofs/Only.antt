@@ -5,7 +5,7 @@ use Prim.Native.Nat.{ℕ}
 use Rattle.page_listing.specs.declared.PageListed.{PageListed}
 use Rattle.page_listing.specs.Page.{PageAnswer, page_answered}
 
--- `page_answered r (now out.exit) ≡ ..`
+-- `page_answered result out.new ≡ ..`
 pub only_page : (r r' : PageListed) (out out' : List ℕ) (x : PageAnswer) → page_answered r out ≡ x → page_answered r' out' ≡ x
     → (r ≡ r') × (out ≡ out')
 only_page r r' out out' x e e' = (

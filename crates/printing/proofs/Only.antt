@@ -7,7 +7,7 @@ use Rattle.printing.specs.Digits.{digits_of}
 use Rattle.printing.specs.Writing.{Spot, spot}
 use Rattle.printing.proofs.Lengths.{digits_long}
 
--- `spot (now buf.exit) r ≡ ..`
+-- `spot buf.new result ≡ ..`
 pub only_spot : (buf buf' : List ℕ) (r r' : ℕ) (x : Spot) → spot buf r ≡ x → spot buf' r' ≡ x → (buf ≡ buf') × (r ≡ r')
 only_spot buf buf' r r' x e e' = (ap (λ (s : Spot). s.bytes) (e ∙ sym e'), ap (λ (s : Spot). s.at) (e ∙ sym e'))
 

@@ -14,7 +14,7 @@ use Rattle.words.specs.Whole.{word_top, double_top, signed, kept, overflows}
 abbrev pub joined : ℕ → ℕ → ℕ
 joined left right = left * 4294967296 + right
 
--- the product of two words (it always fits: proofs/Products, product-is)
+-- the product of two words (it always fits: proofs/Products, product_is)
 unfoldable pub product_of : ℕ → ℕ → ℕ
 product_of a b = kept double_top (signed word_top a *ℤ signed word_top b)
 
