@@ -1,3 +1,4 @@
+-- An answer for each arm of the match, and one for the rest.
 use mathlib.Core.Path.{refl}
 use Rattle.code.specs.Table.{action_of, table}
 use Rattle.decode.proofs.Decoding.{at_code, unknown_code}

@@ -1,3 +1,4 @@
+-- For each row its kind's law, with its code and the table's action.
 use mathlib.Core.Path.{refl}
 use Rattle.words.specs.declared.Alu.TheVariants as alu
 use Rattle.words.specs.declared.Logic.TheVariants as logic
