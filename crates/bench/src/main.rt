@@ -2,21 +2,17 @@
 // standard error has a line that says so.
 #![tactic(auto)]
 
-use streams::Course;
+use streams::Trouble;
 
-fn answer(rt: &HostRuntime) -> Course {
+fn answer(rt: &HostRuntime) -> Result<(), Trouble> {
     // One byte more than a sheet may have is enough to know that it is too long.
-    let mut sheet = [0u8; 65537];
-    let taken = streams::take(rt, &mut sheet);
-    if taken.is_failed {
-        return Course::Unread;
-    }
-    let n = taken.count;
-    let text = sheet::answer(&sheet[0..n]);
-    let bytes = text.bytes;
-    streams::write(rt, &bytes, text.len)
+    let mut room = [0; 65537];
+    let text = sheet::answer(streams::take(rt, &mut room)?);
+    streams::write(rt, text.as_slice())
 }
 
 fn main(rt: HostRuntime) {
-    streams::tell(&rt, b"bench", b"sheet", 1, answer(&rt));
+    if let Err(trouble) = answer(&rt) {
+        streams::tell(&rt, "bench", "sheet", 1, trouble);
+    }
 }

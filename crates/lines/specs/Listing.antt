@@ -1,11 +1,13 @@
 -- A listing: the lines of some code from an address on, those that fit an output, and the answer.
 use Rattle.std.specs.Prelude.{List, [], ◌∷◌, ◌++◌, ℕ, zero, suc, ◌+◌, ◌-◌, ◌%◌, ◌^◌, leb, ltb, length, get_or, take, drop}
+use Rattle.std.specs.Prelude.{Result, Ok, Err}
 use Rattle.words.specs.Pick.{pick}
 use Rattle.code.specs.declared.Found.{Found}
 use Rattle.code.specs.declared.Found.TheVariants.{Known, Unknown}
 use Rattle.code.specs.Table.{action_of}
 use Rattle.code.specs.Formats.{length_of}
 use Rattle.lines.specs.declared.Listed.{Listed}
+use Rattle.lines.specs.declared.StartOutOfRange.{StartOutOfRange}
 use Rattle.lines.specs.Line.{Line, line, text_of}
 
 -- raw bytes: two, or the one that is left
@@ -61,9 +63,9 @@ pub record Answer : Type 0 where
   pub written : ℕ
   pub out : List ℕ
 
-abbrev pub answered : Listed → List ℕ → Answer
-answered r out =
-    record { number = r.number; lines = r.lines; next = r.next; written = r.written; out = out }
+abbrev pub answered : Result Listed StartOutOfRange → List ℕ → Answer
+answered (Ok r) out = record { number = 0; lines = r.lines; next = r.next; written = r.written; out = out }
+answered (Err e) out = record { number = 6; lines = 0; next = 0; written = 0; out = out }
 
 -- the answer when lines that stand for the code from the byte `at` on are put out: behind them is what stood there before
 unfoldable pub put_out : ℕ → List Line → List ℕ → Answer

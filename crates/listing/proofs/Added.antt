@@ -1,47 +1,53 @@
 -- A line in its buffer of 33 bytes, and added to the output where it fits.
 use mathlib.Core.Path.{◌≡◌, ap, ap₂, ◌∙◌}
+use mathlib.Core.Bool.{true, false}
 use mathlib.Core.List.{List, ◌++◌}
 use Prim.Native.Nat.{ℕ, ◌+◌, ◌-◌, ◌≤◌, ◌<◌}
 use native.Mathlib.Omega.{arith}
-use native.Mathlib.Nat.{sub-zero}
 use lib.ListN.{length, take}
 use lib.Seq.{take-append_seam}
 use borrow.Author.Tests.{le-leb, lt-leb}
-use Rattle.printing.specs.Writing.{Spot, spot, wrote}
+use Rattle.printing.specs.declared.writing.Writer.{Writer}
+use Rattle.printing.specs.Writing.{Spot, spot, wrote, spot_of, Wrote}
 use Rattle.printing.proofs.Filled.{zeros, whole}
 use Rattle.lines.specs.Line.{line, text_of}
 use Rattle.lines.proofs.Proper.{Bytes}
 use Rattle.lines.proofs.Longest.{line_long}
-use Rattle.listing.specs.Adding.{added}
+use Rattle.listing.specs.Adding.{has_room, added}
 
-module _ (b : List ℕ) (n address : ℕ) (bs : List ℕ) (small : Bytes bs) (few : length bs ≤ 6)
-    (e : spot b n ≡ wrote (spot (zeros 33) 0) (text_of (line address bs))) where
+-- s is a writer at the start of 33 zeros, and t the same after a line
+module _ (s t : Writer) (address : ℕ) (bs : List ℕ) (small : Bytes bs) (few : length bs ≤ 6)
+    (a : spot_of s ≡ spot (zeros 33) 0) (f : Wrote s t (text_of (line address bs))) where
   abbrev text : List ℕ
   text = text_of (line address bs)
 
   short : length text ≤ 33
   short = line_long (line address bs) (record { small = small; few = few })
 
-  in_buffer : spot b n ≡ spot (text ++ zeros (33 - length text)) (length text)
-  in_buffer = e ∙ whole 33 text short
+  in_buffer : spot_of t ≡ spot (text ++ zeros (33 - length text)) (length text)
+  in_buffer = f.written ∙ ap (λ (k : Spot). wrote k text) a ∙ whole 33 text short
 
-  pub line_length : n ≡ length text
-  line_length = ap (λ (s : Spot). s.at) in_buffer
+  line_length : t.at ≡ length text
+  line_length = ap (λ (k : Spot). k.at) in_buffer
 
-  pub line_short : n ≤ 33
-  line_short = rw line_length short
+  -- w is the output's writer
+  module _ (w : Writer) (within : w.at ≤ length w.buf.now) where
+    pub no_room : length w.buf.now - w.at < t.at → false ≡ has_room (spot_of w) text
+    no_room h = rw (lt-leb (w.at + length text) (length w.buf.now) (omega (arith, line_length)))
 
-  pub line_there : take n b ≡ text
-  line_there =
-      ap₂ (λ (k : ℕ) (l : List ℕ). take k l) line_length (ap (λ (s : Spot). s.bytes) in_buffer)
-      ∙ take-append_seam text (zeros (33 - length text))
+    pub some_room : t.at ≤ length w.buf.now - w.at → true ≡ has_room (spot_of w) text
+    some_room h = rw (le-leb (w.at + length text) (length w.buf.now) (omega (arith, line_length)))
 
-  module _ (out : List ℕ) (at : ℕ) (within : at ≤ length out) where
-    pub added_none : length out - at < n → spot out at ≡ added (spot out at) text
+    pub added_none : length w.buf.now - w.at < t.at → spot_of w ≡ added (spot_of w) text
     unfolding added
-    added_none h = rw (lt-leb (at + length text) (length out) (omega (arith, line_length)))
+    added_none h = rw (← no_room h)
 
-    pub added_some : (s : Spot) → n ≤ length out - at → s ≡ wrote (spot out at) (take (n - 0) b) → s ≡ added (spot out at) text
+    pub added_some : (v : Writer) → t.at ≤ length w.buf.now - w.at → (u : List ℕ) → u ≡ take t.at t.buf.now → Wrote w v u
+        → spot_of v ≡ added (spot_of w) text
     unfolding added
-    added_some s h k =
-        rw (le-leb (at + length text) (length out) (omega (arith, line_length))) (k ∙ ap (wrote (spot out at)) (rw sub-zero line_there))
+    added_some v h u e g = rw (← some_room h) (g.written ∙ ap (wrote (spot_of w)) (e ∙ there))
+      where
+        there : take t.at t.buf.now ≡ text
+        there =
+            ap₂ (λ (n : ℕ) (l : List ℕ). take n l) line_length (ap (λ (k : Spot). k.bytes) in_buffer)
+            ∙ take-append_seam text (zeros (33 - length text))

@@ -3,20 +3,13 @@ use mathlib.Core.Path.{◌≡◌, sym, ap, ◌∙◌, subst}
 use mathlib.Core.List.{List}
 use Prim.Native.Nat.{ℕ, ◌≤◌, ◌<◌}
 use lib.ListN.{length, get_or}
-use borrow.Author.Tests.{lt-ltb, le-ltb, le-leb, lt-leb}
+use borrow.Author.Tests.{le-leb, lt-leb}
 use Rattle.code.specs.declared.Action.{Action}
 use Rattle.code.specs.declared.Found.{Found}
 use Rattle.code.specs.declared.Found.TheVariants.{Known, Unknown}
 use Rattle.code.specs.Table.{action_of}
 use Rattle.code.specs.Formats.{length_of}
 use Rattle.lines.specs.Listing.{raw_size, size_in, size_of}
-
-module _ (left : ℕ) where
-  pub raw_few : left < 2 → left ≡ raw_size left
-  raw_few h = rw (lt-ltb left 2 h)
-
-  pub raw_two : 2 ≤ left → 2 ≡ raw_size left
-  raw_two h = rw (le-ltb left 2 h)
 
 module _ (code : List ℕ) (op : ℕ) (f : Found) (o : op ≡ get_or code 0 0) (e : f ≡ action_of op) where
   is_size : (g : Found) → f ≡ g → size_in g (length code) ≡ size_of code

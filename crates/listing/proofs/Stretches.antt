@@ -1,8 +1,8 @@
 -- What a stretch is: its bytes, and whether it is an instruction.
 use mathlib.Core.Path.{◌≡◌, refl, sym, ap, ◌∙◌}
 use mathlib.Core.List.{List}
-use Prim.Native.Nat.{ℕ, ◌≤◌}
-use lib.ListN.{length, get_or, get_or-eq_default}
+use Prim.Native.Nat.{ℕ}
+use lib.ListN.{length, get_or}
 use borrow.Author.Tests.{eq-eqb, ne_eqb}
 use Rattle.code.specs.declared.Action.{Action}
 use Rattle.code.specs.declared.Action.TheVariants.{Rr, Rx, Rs, Si, Ss}
@@ -11,9 +11,6 @@ use Rattle.code.specs.declared.Found.TheVariants.{Known, Unknown}
 use Rattle.code.specs.Table.{action_of}
 use Rattle.code.specs.Formats.{length_of}
 use Rattle.lines.specs.Line.{of_length, instruction_in}
-
-pub past_end : (bs : List ℕ) (i : ℕ) → length bs ≤ i → 0 ≡ get_or bs i 0
-past_end bs i h = sym (get_or-eq_default bs 0 h)
 
 module _ (bs : List ℕ) where
   none : (f : Found) → Unknown ≡ of_length f 0

@@ -1,24 +1,26 @@
 -- The walk, a line at a time: what is still to come from here is the whole answer.
 use mathlib.Core.Path.{◌≡◌, refl, sym, ap, ap₂, ◌∙◌, subst}
-use mathlib.Core.Bool.{Bool, true, false}
+use mathlib.Core.Bool.{true, false}
 use mathlib.Core.List.{List, [], ◌∷◌, ◌++◌, append-nil, append_assoc}
 use Prim.Native.Nat.{ℕ, suc, ◌+◌, ◌-◌, ◌^◌, ◌≤◌, ◌<◌}
 use native.Mathlib.Omega.{arith}
 use native.Mathlib.Nat.{add-zero, zero-add, sub-zero}
-use lib.Dec.{leb}
+use base.Fml.{GName}
 use lib.ListN.{length, take, drop, length-append, length-drop, drop_of_length-le, take-append-drop}
-use lib.Seq.{sets, sets-eq, length-sets, length-take-le, take_at, drop-append-add, drop-drop}
+use lib.Seq.{sets, sets-eq, length-sets, length-take-le, take-length, take_at, drop-append-add, drop-drop}
 use borrow.Author.Tests.{le-leb, lt-leb, leb-true, leb-false, lt-ltb, le-ltb}
-use Rattle.words.specs.Pick.{pick}
+use Rattle.std.specs.Prelude.{Err}
 use Rattle.printing.specs.Lines.{LF}
 use Rattle.printing.specs.Digits.{hex_of}
-use Rattle.printing.specs.Writing.{Spot, spot}
+use Rattle.printing.specs.declared.writing.Writer.{Writer}
+use Rattle.printing.specs.Writing.{Spot, spot, spot_of}
 use Rattle.printing.proofs.WrittenText.{wrote_sets}
+use Rattle.lines.specs.declared.StartOutOfRange.{StartOutOfRange}
 use Rattle.lines.specs.Line.{Line, line, instruction_in, said_of, text_of}
-use Rattle.lines.specs.Listing.{size_of, wrapped, listing, stretches, texts, fitting, Answer, put_out, listed_from, listed}
+use Rattle.lines.specs.Listing.{size_of, wrapped, listing, stretches, texts, fitting, Answer, put_out, answered, listed_from, listed}
 use Rattle.lines.proofs.Steps.{size_some, size_within, size_few, listing_none, listing_some}
 use Rattle.lines.proofs.AllBytes.{wrapped_again}
-use Rattle.listing.specs.Adding.{added}
+use Rattle.listing.specs.Adding.{has_room, added}
 
 -- `lines` lines are written, the code is listed up to the byte `next` and the output written up to `w`; the lines ls come behind
 abbrev pub on : ℕ → ℕ → ℕ → List ℕ → List Line → Answer
@@ -42,9 +44,17 @@ on_from code start lines next w out = on lines next w out (coming code start nex
 abbrev pub halt : ℕ → ℕ → ℕ → List ℕ → Answer
 halt lines next w out = record { number = 0; lines = lines; next = next; written = w; out = out }
 
-pub begins : (code : List ℕ) (at start : ℕ) (out : List ℕ) → listed_from code at start out ≡ on_from code start 0 at 0 out
+begins : (code : List ℕ) (at start : ℕ) (out : List ℕ) → listed_from code at start out ≡ on_from code start 0 at 0 out
 unfolding listed_from put_out
 begins code at start out = simp (zero-add, sub-zero) refl
+
+-- a writer at the start of an output
+module _ (w : Writer) (out : List ℕ) (e : spot_of w ≡ spot out 0) where
+  pub begins_there : (code : List ℕ) (at start : ℕ) → listed_from code at start out ≡ on_from code start 0 at w.at w.buf.now
+  begins_there code at start = begins code at start out ∙ ap (λ (s : Spot). on_from code start 0 at s.at s.bytes) (sym e)
+
+  pub begins_within : w.at ≤ length w.buf.now
+  begins_within = rw (ap (λ (s : Spot). s.at) e) (omega arith)
 
 on_none : (lines next w : ℕ) (out : List ℕ) → on lines next w out [] ≡ halt lines next w out
 unfolding texts stretches
@@ -107,11 +117,7 @@ module _ (code : List ℕ) (next k : ℕ) (inside : next < length code) (e : k �
   some = rw length-drop (omega arith)
 
   all : take (length code - next) (drop next code) ≡ drop next code
-  all = ap (λ (n : ℕ). take n (drop next code)) (sym (length-drop next code)) ∙ take_all (drop next code)
-    where
-      take_all : (l : List ℕ) → take (length l) l ≡ l
-      take_all [] = refl
-      take_all (x ∷ xs) = ap (λ (r : List ℕ). x ∷ r) (take_all xs)
+  all = ap (λ (n : ℕ). take n (drop next code)) (sym (length-drop next code)) ∙ take-length (drop next code)
 
   pub size_is : k ≡ size_of (drop next code)
   size_is = e ∙ ap size_of all
@@ -167,38 +173,37 @@ module _ (code : List ℕ) (next k : ℕ) (inside : next < length code) (e : k �
           ∙ ap₂ (λ (i j : ℕ). on (lines + 1) (next + i) (w + length text) (sets out w text) (coming code start (next + k) j)) bytes_long n)
 
       -- what came of adding it
-      module _ (out' : List ℕ) (w' : ℕ) (came : spot out' w' ≡ added (spot out w) text) where
-        abbrev room : Bool
-        room = leb (w + length text) (length out)
-
-        came_by : (t : Bool) → room ≡ t → spot out' w' ≡ pick t (spot (sets out w text) (w + length text)) (spot out w)
+      module _ (s : Spot) (came : s ≡ added (spot out w) text) where
+        pub turn_none : false ≡ has_room (spot out w) text → on_from code start lines next w out ≡ halt lines next s.at s.bytes
         unfolding added
-        came_by true h = came ∙ (rw h (wrote_sets out w text (leb-true (w + length text) (length out) h)))
-        came_by false h = came ∙ rw h
+        turn_none h =
+            over (leb-false (w + length text) (length out) (sym h))
+            ∙ ap (λ (k : Spot). halt lines next k.at k.bytes) (sym (came ∙ rw (← h)))
 
-        pub turn_none : w' ≡ w → on_from code start lines next w out ≡ halt lines next w out'
-        turn_none same = go room refl
-          where
-            go : (t : Bool) → room ≡ t → on_from code start lines next w out ≡ halt lines next w out'
-            go true h = absurd (omega (arith, text_some (line a bytes), ap (λ (s : Spot). s.at) (came_by true h)))
-            go false h =
-                over (leb-false (w + length text) (length out) h)
-                ∙ ap (halt lines next w) (sym (ap (λ (s : Spot). s.bytes) (came_by false h)))
+        module _ (h : true ≡ has_room (spot out w) text) where
+          grown : s ≡ spot (sets out w text) (w + length text)
+          unfolding added
+          grown = came ∙ rw (← h) (wrote_sets out w text (leb-true (w + length text) (length out) (sym h)))
 
-        module _ (other : w' ≡ w → ⊥) where
-          grown : (t : Bool) → room ≡ t → (room ≡ true) × (spot out' w' ≡ spot (sets out w text) (w + length text))
-          grown true h = (h, came_by true h)
-          grown false h = absurd (other (ap (λ (s : Spot). s.at) (came_by false h)))
-
-          pub turn_some : on_from code start lines next w out ≡ on_from code start (lines + 1) (next + k) w' out'
+          pub turn_some : on_from code start lines next w out ≡ on_from code start (lines + 1) (next + k) s.at s.bytes
           turn_some =
-              fits (leb-true (w + length text) (length out) (grown room refl).0)
-              ∙ ap (λ (s : Spot). on_from code start (lines + 1) (next + k) s.at s.bytes) (sym (grown room refl).1)
+              fits (leb-true (w + length text) (length out) (sym h))
+              ∙ ap (λ (k' : Spot). on_from code start (lines + 1) (next + k) k'.at k'.bytes) (sym grown)
 
-          pub turn_within : w' ≤ length out'
+          pub turn_within : s.at ≤ length s.bytes
           turn_within =
-              subst (λ (s : Spot). s.at ≤ length s.bytes) (sym (grown room refl).1)
-              (rw (length-sets out w text) (leb-true (w + length text) (length out) (grown room refl).0))
+              subst (λ (k : Spot). k.at ≤ length k.bytes) (sym grown)
+              (rw (length-sets out w text) (leb-true (w + length text) (length out) (sym h)))
+
+-- no more lines come, and v is where w's writing ended: x is the answer
+pub record Halts (w v : Writer) (lines next : ℕ) (x : Answer) : Type 0 where
+  pub same_buffer : v.buf.ghost_name ≡ w.buf.ghost_name
+  pub whole : x ≡ halt lines next v.at v.buf.now
+
+-- b is what the output holds when its loan ends
+pub handed_back : (w v : Writer) (lines next : ℕ) (x : Answer) (b : List ℕ) (g : GName) → w.buf.ghost_name ≡ g
+    → (g ≡ v.buf.ghost_name → b ≡ v.buf.now) → Halts w v lines next x → halt lines next v.at b ≡ x
+handed_back w v lines next x b g k d h = ap (halt lines next v.at) (d (sym (h.same_buffer ∙ k))) ∙ sym h.whole
 
 -- the entry: a start in range, and one out of range
 module _ (code : List ℕ) (start : ℕ) (out : List ℕ) where
@@ -206,6 +211,6 @@ module _ (code : List ℕ) (start : ℕ) (out : List ℕ) where
   unfolding listed
   in_range r h e = rw (lt-ltb start (2 ^ 24) h) e
 
-  pub out_of_range : 2 ^ 24 ≤ start → record { number = 6; lines = 0; next = 0; written = 0; out = out } ≡ listed code start out
+  pub out_of_range : (e : StartOutOfRange) → 2 ^ 24 ≤ start → answered (Err e) out ≡ listed code start out
   unfolding listed
-  out_of_range h = rw (le-ltb start (2 ^ 24) h)
+  out_of_range e h = rw (le-ltb start (2 ^ 24) h)

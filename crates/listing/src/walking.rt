@@ -1,18 +1,18 @@
 // A step of the walk: how far a line reaches, where it lies, and the line itself where it fits.
 ghost use Rattle.std.specs.Prelude.{◌≡◌, ◌+◌, ◌≤◌, length};
-ghost use Rattle.printing.specs.Writing.{spot};
+ghost use Rattle.printing.specs.Writing.{spot_of};
 ghost use Rattle.lines.specs.Line.{line, text_of};
 ghost use Rattle.lines.specs.Listing.{raw_size, size_of, wrapped};
-ghost use Rattle.listing.specs.Adding.{added};
+ghost use Rattle.listing.specs.Adding.{has_room, added};
 
 use super::{line, operands};
 use code::Found;
-use printing::writing;
+use printing::writing::Writer;
 
 fn raw_size(left: usize) -> usize
     ensures { result ≡ raw_size left }
 {
-    if left < 2 { left } else { 2 }
+    left.min(2)
 }
 
 // How many bytes the first line of some code stands for.
@@ -34,16 +34,20 @@ pub fn address_at(start: u32, place: usize) -> u32
     ((start as usize + place % 16777216) % 16777216) as u32
 }
 
-// Adds a line to what is written, if there is room for the whole of it. The place behind it; the same place if there is none.
-pub fn add_line(out: &mut [u8], at: usize, address: u32, bytes: &[u8]) -> usize
-    requires { (at ≤ length out.old) × (length bytes.now ≤ 6) }
-    ensures { spot out.new result ≡ added (spot out.old at) (text_of (line address bytes.now)) }
+// Adds a line to what is written, and says whether there was room for the whole of it. Else nothing is written.
+pub fn add_line(w: &mut Writer, address: u32, bytes: &[u8]) -> bool
+    requires { (w.old.at ≤ length w.old.buf.now) × (length bytes.now ≤ 6) }
+    ensures same_buffer { w.new.buf.ghost_name ≡ w.old.buf.ghost_name }
+    ensures written { spot_of w.new ≡ added (spot_of w.old) (text_of (line address bytes.now)) }
+    ensures told { result ≡ has_room (spot_of w.old) (text_of (line address bytes.now)) }
 {
     // The longest line has 33 characters.
-    let mut text = [0u8; 33];
-    let len = line::put_line(&mut text, 0, address, bytes);
-    if out.len() - at < len {
-        return at;
+    let mut room = [0u8; 33];
+    let mut text = Writer::new(&mut room);
+    line::put_line(&mut text, address, bytes);
+    if w.buf.len() - w.at < text.at {
+        return false;
     }
-    writing::put_all(out, at, &text[0..len])
+    w.put_all(text.written());
+    true
 }

@@ -3,131 +3,74 @@
 // standard error has a line that says so, and the program ends.
 #![tactic(auto)]
 
-ghost use Rattle.std.specs.Prelude.{◌<◌};
+ghost use Rattle.std.specs.Prelude.{◌<◌, IfOk};
 
-use streams::Course;
-
-#[derive(Clone, Copy)]
-enum Byte {
-    Is(u8),
-    Not(Course),
-}
-
-#[derive(Clone, Copy)]
-enum Length {
-    Is(usize),
-    Not(Course),
-}
-
-fn is_digit(b: u8) -> bool {
-    b'0' <= b && b <= b'9'
-}
+use streams::Trouble;
 
 // The value of a digit.
-fn digit(b: u8) -> usize
-    ensures { result < 256 }
+fn digit(b: u8) -> Result<usize, Trouble>
+    ensures { IfOk result (λ d. d < 10) }
 {
-    if b < b'0' { 0 } else { (b - b'0') as usize }
+    match b {
+        b'0'..=b'9' => Ok(usize::from(b - b'0')),
+        _ => Err(Trouble::Malformed),
+    }
 }
 
-// The next byte of a length. Before the first the input may end.
-fn take_byte(rt: &HostRuntime, is_first: bool) -> Byte {
-    let mut byte = [0u8; 1];
-    let course = if is_first {
-        streams::fill(rt, &mut byte)
-    } else {
-        streams::fill_within(rt, &mut byte)
+// The length in front of a sheet: at most twelve digits, which no remainder cuts, and LF. None where the input ends before it.
+fn take_length(rt: &HostRuntime) -> Result<Option<usize>, Trouble> {
+    let Some(first) = streams::first_bytes::<1>(rt)? else {
+        return Ok(None);
     };
-    if streams::is_fine(course) {
-        return Byte::Is(byte[0]);
-    }
-    Byte::Not(course)
-}
-
-// The length in front of a sheet: at most twelve digits, which no remainder cuts, and LF.
-fn take_length(rt: &HostRuntime) -> Length {
-    let mut value: usize = 0;
-    let mut digits: usize = 0;
-    while digits < 13 {
-        match take_byte(rt, digits == 0) {
-            Byte::Not(course) => return Length::Not(course),
-            Byte::Is(b) => {
-                if b == b'\n' && digits > 0 {
-                    return Length::Is(value);
-                }
-                if !is_digit(b) {
-                    return Length::Not(Course::Malformed);
-                }
-                value = value % 100000000000 * 10 + digit(b);
-            }
+    let mut value = digit(first[0])?;
+    for _ in 1..13 {
+        let [b] = streams::next_bytes::<1>(rt)?;
+        if b == b'\n' {
+            return Ok(Some(value));
         }
-        digits += 1;
+        value = value % 100_000_000_000 * 10 + digit(b)?;
     }
-    Length::Not(Course::Malformed)
+    Err(Trouble::Malformed)
 }
 
 // Reads past n more bytes.
-fn skip(rt: &HostRuntime, n: usize) -> Course {
-    let mut chunk = [0u8; 4096];
-    let mut left = n;
-    while left >= 4096 {
-        let course = streams::fill_within(rt, &mut chunk);
-        if !streams::is_fine(course) {
-            return course;
-        }
-        left -= 4096;
+fn skip(rt: &HostRuntime, n: usize) -> Result<(), Trouble> {
+    let mut chunk = [0; 4096];
+    for _ in 0..n / 4096 {
+        streams::fill_within(rt, &mut chunk)?;
     }
-    streams::fill_within(rt, &mut chunk[0..left])
+    streams::fill_within(rt, &mut chunk[..n % 4096])
 }
 
-fn write_text(rt: &HostRuntime, text: printing::Text) -> Course {
-    let n = text.len;
-    if rt.print(n).is_ok() {
-        if rt.write_all(b"\n").is_ok() {
-            let bytes = text.bytes;
-            return streams::write(rt, &bytes, n);
-        }
-    }
-    Course::Unwritten
+fn write_text(rt: &HostRuntime, text: &[u8]) -> Result<(), Trouble> {
+    rt.println(text.len()).map_err(|_| Trouble::Unwritten)?;
+    streams::write(rt, text)
 }
 
 // A sheet that fills its room, and as many bytes more as there was no room for.
-fn answer(rt: &HostRuntime, sheet: &mut [u8], more: usize) -> Course {
-    let taken = streams::fill_within(rt, sheet);
-    if !streams::is_fine(taken) {
-        return taken;
-    }
-    let skipped = skip(rt, more);
-    if !streams::is_fine(skipped) {
-        return skipped;
-    }
-    write_text(rt, sheet::answer(sheet))
+fn answer(rt: &HostRuntime, sheet: &mut [u8], more: usize) -> Result<(), Trouble> {
+    streams::fill_within(rt, sheet)?;
+    skip(rt, more)?;
+    write_text(rt, sheet::answer(sheet).as_slice())
 }
 
 // A sheet of n bytes and its answer.
-fn answer_of(rt: &HostRuntime, n: usize) -> Course {
+fn answer_of(rt: &HostRuntime, n: usize) -> Result<(), Trouble> {
     // One byte more than a sheet may have is enough to know that it is too long.
-    let mut room = [0u8; 65537];
-    if n <= 65537 {
-        return answer(rt, &mut room[0..n], 0);
-    }
-    answer(rt, &mut room, n - 65537)
+    let mut room = [0; 65537];
+    let kept = n.min(65537);
+    answer(rt, &mut room[..kept], n - kept)
 }
 
-// The n-th sheet; whether to go on.
-fn turn(rt: &HostRuntime, n: u64) -> bool {
-    let course = match take_length(rt) {
-        Length::Is(bytes) => answer_of(rt, bytes),
-        Length::Not(course) => course,
+// The next sheet and its answer; whether there was one.
+fn answer_next(rt: &HostRuntime) -> Result<bool, Trouble> {
+    let Some(n) = take_length(rt)? else {
+        return Ok(false);
     };
-    streams::tell(rt, b"many", b"sheet", n, course);
-    streams::is_fine(course)
+    answer_of(rt, n)?;
+    Ok(true)
 }
 
 fn main(rt: HostRuntime) {
-    // Nothing says that the input ends, so the sheets are counted up to a number that no run reaches.
-    let mut n: u64 = 1;
-    while n < u64::MAX && turn(&rt, n) {
-        n += 1;
-    }
+    streams::each(&rt, "many", "sheet", answer_next);
 }

@@ -1,20 +1,18 @@
 -- What crosses, from what the engine and the bench answered.
-use Prim.Native.Nat.{ℕ, ◌+◌, ◌≤◌, ◌<◌}
+use Prim.Native.Nat.{ℕ, ◌<◌}
 use native.Mathlib.Omega.{arith}
 use mathlib.Core.Path.{◌≡◌, refl, ◌∙◌, ap}
-use mathlib.Core.List.{List, [], ◌∷◌, ◌++◌, append-nil}
+use mathlib.Core.List.{List, [], ◌∷◌}
 use borrow.Author.Tests.{eq-eqb, ne_eqb}
 use lib.Dec.{eqb}
-use lib.ListN.{length, set, drop, drop_of_length-le}
-use lib.Seq.{sets-eq, lt-length-sets}
+use lib.ListN.{length, set}
+use lib.Seq.{lt-length-sets}
 use Rattle.words.specs.Pick.{pick}
 use Rattle.machine.specs.declared.Reply.{Reply}
 use Rattle.machine.specs.Machine.{Outcome, outcome, step_outcome, run_outcome}
 use Rattle.demand.proofs.Calls.{run_clean, step_clean, run_pages, step_pages}
 use Rattle.printing.specs.declared.Text.{Text}
 use Rattle.printing.specs.Answer.{text_of}
-use Rattle.printing.specs.Writing.{Spot, spot, wrote}
-use Rattle.printing.proofs.WrittenText.{wrote_sets}
 use Rattle.reading.specs.Setting.{Setting}
 use Rattle.reading.specs.Sheet.{good, reading_of}
 use Rattle.sheet.specs.Sheet.{machine_of, printed, answer_to, answer_of}
@@ -103,27 +101,10 @@ module _ (sheet room : List ℕ) where
   unfolding sheet_crossed
   room_away h = rw (ne_eqb (length room) 8192 h)
 
-  -- a text as long as the room takes all of it
-  filled : (room' bytes : List ℕ) (n : ℕ) → length room ≡ 8192 → length bytes ≡ 8192 → spot room' n ≡ wrote (spot room 0) bytes → room' ≡ bytes
-  filled room' bytes n h k w = ap (λ (s : Spot). s.bytes) (w ∙ wrote_sets room 0 bytes fits) ∙ sets-eq bytes room 0 fits ∙ rest
-    where
-      fits : 0 + length bytes ≤ length room
-      fits = omega arith
-
-      all : length room ≤ 0 + length bytes
-      all = omega arith
-
-      rest : bytes ++ drop (0 + length bytes) room ≡ bytes
-      rest = ap (λ (t : List ℕ). bytes ++ t) (drop_of_length-le room all) ∙ append-nil bytes
-
-  pub room_filled : (room' : List ℕ) (n : ℕ) (t : Text) → length room ≡ 8192 → length t.bytes ≡ 8192
-      → t ≡ text_of (answer_of sheet) → spot room' n ≡ wrote (spot room 0) t.bytes
+  pub room_filled : (room' : List ℕ) (t : Text) → length room ≡ 8192 → room' ≡ t.bytes → t ≡ text_of (answer_of sheet)
       → record { bytes = room'; len = t.len } ≡ sheet_crossed sheet room
   unfolding sheet_crossed
-  room_filled room' n t h k a w =
-      ap (λ (b : List ℕ). text b t.len) (filled room' t.bytes n h k w)
-      ∙ a
-      ∙ rw (eq-eqb (length room) 8192 h)
+  room_filled room' t h k a = ap (λ (b : List ℕ). text b t.len) k ∙ a ∙ rw (eq-eqb (length room) 8192 h)
     where
       text : List ℕ → ℕ → Text
       text b n = record { bytes = b; len = n }

@@ -82,8 +82,7 @@ pub extern "C" fn spectra46_sheet(sheet: &[u8], room: &mut [u8]) -> usize
         return 0;
     }
     let text = sheet::answer(sheet);
-    let bytes = text.bytes;
-    printing::writing::put_all(room, 0, &bytes);
+    room.copy_from_slice(&text.bytes);
     text.len
 }
 
@@ -96,9 +95,16 @@ pub extern "C" fn spectra46_list(code: &[u8], start: u32, out: &mut [u8], told: 
     if told.len() != 3 {
         return 6;
     }
-    let r = listing::list(code, start, out);
-    told[0] = r.lines;
-    told[1] = r.next;
-    told[2] = r.written;
-    r.number
+    match listing::list(code, start, out) {
+        Ok(r) => {
+            told[0] = r.lines;
+            told[1] = r.next;
+            told[2] = r.written;
+            0
+        }
+        Err(_) => {
+            told.fill(0);
+            6
+        }
+    }
 }

@@ -1,5 +1,5 @@
 -- A page's listing: the page is found by its whole number, and each of its bytes through the look-up, as a load finds it.
-use Rattle.std.specs.Prelude.{List, [], ◌∷◌, ℕ, zero, suc, ◌+◌, ◌*◌, ltb, length, get_or}
+use Rattle.std.specs.Prelude.{List, [], ◌∷◌, ℕ, zero, suc, ◌+◌, ◌*◌, ltb, length, get_or, Result, Ok, Err}
 use Rattle.words.specs.Pick.{pick}
 use Rattle.pages.specs.declared.Access.TheVariants.{Load}
 use Rattle.pages.specs.declared.Look.{Look}
@@ -7,7 +7,9 @@ use Rattle.pages.specs.declared.Look.TheVariants.{At, Refused}
 use Rattle.pages.specs.Tests.{number_of}
 use Rattle.pages.specs.Look.{look_of}
 use Rattle.lines.specs.Listing.{Answer, listed}
-use Rattle.page_listing.specs.declared.PageListed.{PageListed}
+use Rattle.lines.specs.declared.Listed.{Listed}
+use Rattle.page_listing.specs.declared.PageRefusal.{PageRefusal}
+use Rattle.page_listing.specs.declared.PageRefusal.TheVariants.{NoSuchPage, Byte}
 
 -- a byte that the look-up found, and the bytes behind it; nothing where it was refused
 abbrev pub found_in : List ℕ → Look → List ℕ → List ℕ
@@ -35,9 +37,20 @@ pub record PageAnswer : Type 0 where
   pub written : ℕ
   pub out : List ℕ
 
-abbrev pub page_answered : PageListed → List ℕ → PageAnswer
-page_answered r out =
-    record { number = r.number; place = r.place; lines = r.lines; next = r.next; written = r.written; out = out }
+-- a refusal's number, and its place
+abbrev pub number_in : PageRefusal → ℕ
+number_in NoSuchPage = 6
+number_in (Byte c a) = number_of c
+
+abbrev pub place_in : PageRefusal → ℕ
+place_in NoSuchPage = 0
+place_in (Byte c a) = a
+
+abbrev pub page_answered : Result Listed PageRefusal → List ℕ → PageAnswer
+page_answered (Ok r) out =
+    record { number = 0; place = 0; lines = r.lines; next = r.next; written = r.written; out = out }
+page_answered (Err e) out =
+    record { number = number_in e; place = place_in e; lines = 0; next = 0; written = 0; out = out }
 
 -- as a listing was answered
 abbrev pub of_page : Answer → PageAnswer

@@ -4,20 +4,19 @@
 ghost use Rattle.std.specs.Prelude.{◌≡◌, ◌≤◌, ◌<◌, ◌+◌, length, take, drop};
 ghost use Rattle.pages.specs.Tests.{number_of};
 ghost use Rattle.lines.specs.Listing.{listed};
-ghost use Rattle.page_listing.specs.Page.{first_of, page_answered, of_page, refused_at, page_listed};
+ghost use Rattle.page_listing.specs.Page.{first_of, number_in, place_in, page_answered, of_page, page_listed};
 
+use lines::Listed;
 use pages::{Access, Cause, Look};
 
-// The answer: that of a listing, and where a byte was refused.
+// Why nothing of a page was listed.
 #[derive(Clone, Copy)]
-pub struct PageListed {
-    pub number: u32, // 0; what the page's first byte is refused with; or 6 for a page that the machine lacks
-    pub place: u32, // the address of the byte that was refused, else 0
-    pub lines: usize,
-    pub next: usize,
-    pub written: usize,
+pub enum PageRefusal {
+    NoSuchPage, // the machine lacks it
+    Byte(Cause, u32), // its first byte was refused: the cause, and the byte's address
 }
 
+// The number of a cause. The crate actions has the same function; neither crate stands on the other.
 fn number_of(cause: Cause) -> u32
     ensures { result ≡ number_of cause }
 {
@@ -28,44 +27,45 @@ fn number_of(cause: Cause) -> u32
     }
 }
 
-// Nothing was listed.
-fn refused(number: u32, place: u32) -> PageListed
-    ensures { result ≡ record { number = number; place = place; lines = 0; next = 0; written = 0 } }
-{
-    PageListed {
-        number: number,
-        place: place,
-        lines: 0,
-        next: 0,
-        written: 0,
+impl PageRefusal {
+    // The cause's number; or 6 for a page that the machine lacks.
+    pub fn number(self) -> u32
+        ensures { result ≡ number_in self }
+    {
+        match self {
+            PageRefusal::NoSuchPage => 6,
+            PageRefusal::Byte(cause, _) => number_of(cause),
+        }
+    }
+
+    // The address of the byte that was refused, else 0.
+    pub fn place(self) -> u32
+        ensures { result ≡ place_in self }
+    {
+        match self {
+            PageRefusal::NoSuchPage => 0,
+            PageRefusal::Byte(_, place) => place,
+        }
     }
 }
 
 // The listing of a page that the look-up of its first byte reaches: its bytes lie together, and are listed where they lie.
-fn list_found(mem: &[u8], page: u32, at: usize, reach: u32, out: &mut [u8]) -> PageListed
+fn list_found(mem: &[u8], page: u32, at: usize, reach: u32, out: &mut [u8]) -> Listed
     requires { (page < 512) × (at + reach ≤ length mem.now) }
-    ensures { page_answered result out.new ≡ of_page (listed (take reach (drop at mem.now)) (first_of page) out.old) }
+    ensures { page_answered (Ok result) out.new ≡ of_page (listed (take reach (drop at mem.now)) (first_of page) out.old) }
 {
-    let told = listing::list(&mem[at..at + reach as usize], page * 4096, out);
-    PageListed {
-        number: told.number,
-        place: 0,
-        lines: told.lines,
-        next: told.next,
-        written: told.written,
-    }
+    listing::list_all(&mem[at..at + reach as usize], page * 4096, out)
 }
 
 // The entry: as many lines of a page as fit the output. The page is found by its whole number.
-pub fn list_page(mem: &[u8], map: &[u16], page: u32, out: &mut [u8]) -> PageListed
+pub fn list_page(mem: &[u8], map: &[u16], page: u32, out: &mut [u8]) -> Result<Listed, PageRefusal>
     ensures { page_answered result out.new ≡ page_listed mem.now map.now page out.old }
 {
-    if 512 <= page {
-        return refused(6, 0);
+    if page >= 512 {
+        return Err(PageRefusal::NoSuchPage);
     }
-    let found = lookup::look_up(map, mem.len(), Access::Load, page * 4096);
-    match found {
-        Look::At(r, reach) => list_found(mem, page, r, reach, out),
-        Look::Refused(cause, place) => refused(number_of(cause), place),
+    match lookup::look_up(map, mem.len(), Access::Load, page * 4096) {
+        Look::At(at, reach) => Ok(list_found(mem, page, at, reach, out)),
+        Look::Refused(cause, place) => Err(PageRefusal::Byte(cause, place)),
     }
 }

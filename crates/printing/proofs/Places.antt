@@ -2,27 +2,17 @@
 use mathlib.Core.Path.{◌≡◌, refl, sym, ap, ◌∙◌}
 use Prim.Native.Nat.{ℕ, zero, suc, ◌+◌, ◌-◌, ◌/◌, ◌%◌, ◌^◌, ◌≤◌, ◌<◌}
 use native.Mathlib.Omega.{arith}
-use native.Mathlib.Nat.{div-div-eq-div-mul, pow-succ', pow-zero, div-one}
+use native.Mathlib.Nat.{div-div-eq-div-mul, pow-succ', pow-zero, div-one, mul_comm}
+use native.Mathlib.Numerals.{add-one}
 use borrow.Author.Tests.{eq-eqb, ne_eqb, lt-ltb, le-ltb}
 use Rattle.printing.specs.Digits.{digit, digits_of, trimmed, decimal_of}
 
--- x / base ^ left is the whole, and a turn divides once
-module _ (w x base left : ℕ) (h : w ≡ x / base ^ left) where
-  pub divide_turn : 0 < left → w ≡ x / base / base ^ (left - 1)
-  divide_turn l = h ∙ go left l
-    where
-      go : (k : ℕ) → 0 < k → x / base ^ k ≡ x / base / base ^ (k - 1)
-      go zero l = absurd (omega arith)
-      go (suc k) l =
-          let n : suc k - 1 ≡ k = omega arith in
-          rw (n, div-div-eq-div-mul, pow-succ')
+-- a division more
+pub divide_turn : (x y base k : ℕ) → y ≡ x / base ^ k → y / base ≡ x / base ^ (k + 1)
+divide_turn x y base k h = rw (h, div-div-eq-div-mul, add-one, pow-succ', mul_comm base (base ^ k))
 
-  pub divide_end : left ≤ 0 → x ≡ w
-  divide_end l = sym (h ∙ go left l)
-    where
-      go : (k : ℕ) → k ≤ 0 → x / base ^ k ≡ x
-      go zero l = ap (λ (m : ℕ). x / m) (pow-zero base) ∙ div-one x
-      go (suc k) l = absurd (omega arith)
+pub divide_none : (x base : ℕ) → x ≡ x / base ^ 0
+divide_none x base = rw (pow-zero, div-one)
 
 -- x is the number without its last digits
 module _ (x y base : ℕ) (e : x ≡ y) where
@@ -30,9 +20,9 @@ module _ (x y base : ℕ) (e : x ≡ y) where
   unfolding digit
   digit_low h = rw (← e, lt-ltb (x % base) 10 h)
 
-  pub digit_high : 10 ≤ x % base → 55 + x % base ≡ digit (y % base)
+  pub digit_high : 10 ≤ x % base → 65 + (x % base - 10) ≡ digit (y % base)
   unfolding digit
-  digit_high h = rw (← e, le-ltb (x % base) 10 h)
+  digit_high h = rw (← e, le-ltb (x % base) 10 h) (omega arith)
 
 -- ---- leading zeros
 
@@ -51,9 +41,12 @@ one v = refl
 
 -- d is the first of the digits that are left
 module _ (v left d : ℕ) (h : decimal_of v ≡ trimmed (digits_of 10 left v)) (l : 1 < left) (e : d ≡ digit (v / 10 ^ (left - 1) % 10)) where
-  pub width_found : (d ≡ 48 → ⊥) → digits_of 10 left v ≡ decimal_of v
-  width_found z = sym (h ∙ go left l e)
+  pub width_found : (d ≡ 48 → ⊥) → digits_of 10 (left - 1 + 1) v ≡ decimal_of v
+  width_found z = ap (λ (m : ℕ). digits_of 10 m v) n ∙ sym (h ∙ go left l e)
     where
+      n : left - 1 + 1 ≡ left
+      n = omega arith
+
       go : (k : ℕ) → 1 < k → d ≡ digit (v / 10 ^ (k - 1) % 10) → trimmed (digits_of 10 k v) ≡ digits_of 10 k v
       go zero l e = absurd (omega arith)
       go (suc zero) l e = absurd (omega arith)
@@ -71,7 +64,8 @@ module _ (v left d : ℕ) (h : decimal_of v ≡ trimmed (digits_of 10 left v)) (
           let n : suc (suc j) - 1 ≡ suc j = omega arith in
           skip v j (sym (e ∙ ap (λ (m : ℕ). digit (v / 10 ^ m % 10)) n) ∙ z) ∙ ap (λ (m : ℕ). trimmed (digits_of 10 m v)) (sym n)
 
-pub width_end : (v left : ℕ) → decimal_of v ≡ trimmed (digits_of 10 left v) → 0 < left → left ≤ 1 → digits_of 10 left v ≡ decimal_of v
+-- one digit stays
+pub width_end : (v left : ℕ) → decimal_of v ≡ trimmed (digits_of 10 left v) → 1 ≤ left → left ≤ 1 → digits_of 10 1 v ≡ decimal_of v
 width_end v left h p l =
     let n : left ≡ 1 = omega arith in
-    ap (λ (m : ℕ). digits_of 10 m v) n ∙ sym (one v) ∙ ap (λ (m : ℕ). trimmed (digits_of 10 m v)) (sym n) ∙ sym h
+    sym (one v) ∙ ap (λ (m : ℕ). trimmed (digits_of 10 m v)) (sym n) ∙ sym h

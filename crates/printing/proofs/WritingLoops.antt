@@ -1,5 +1,6 @@
--- Loops that write: what is left from here is the whole. `w` is the whole, `s` the buffer and place here, `t` those after one turn.
+-- Loops that write: what is left from here is the whole. `w` is the writer at the start, `s` the writer here, `t` after one turn.
 use mathlib.Core.Path.{◌≡◌, refl, sym, ap, ◌∙◌}
+use mathlib.Core.Logic.{◌⊎◌, inl, inr}
 use mathlib.Core.List.{List, [], ◌∷◌, ◌++◌}
 use Prim.Native.Nat.{ℕ, zero, suc, ◌+◌, ◌-◌, ◌/◌, ◌%◌, ◌^◌, ◌≤◌, ◌<◌}
 use native.Mathlib.Omega.{arith}
@@ -8,28 +9,48 @@ use lib.ListN.{length, get_or, drop, drop_of_length-le}
 use lib.Seq.{drop-cons}
 use Rattle.printing.specs.Digits.{digit, digits_of}
 use Rattle.printing.specs.Answer.{reg_part, page_part, regs_from, pages_from}
-use Rattle.printing.specs.Writing.{Spot, wrote}
-use Rattle.printing.proofs.WrittenText.{wrote_append, wrote_none}
+use Rattle.printing.specs.declared.writing.Writer.{Writer}
+use Rattle.printing.specs.Writing.{Spot, wrote, spot_of, Wrote}
+use Rattle.printing.proofs.WrittenText.{wrote_append}
+
+-- the rest from s on is the whole text from w on
+pub record Leaves (w s : Writer) (whole rest : List ℕ) : Type 0 where
+  pub same_buffer : s.buf.ghost_name ≡ w.buf.ghost_name
+  pub left : wrote (spot_of w) whole ≡ wrote (spot_of s) rest
+
+-- at the start
+pub all_left : (w : Writer) (whole rest : List ℕ) → whole ≡ rest → Leaves w w whole rest
+all_left w whole rest e = record { same_buffer = refl; left = ap (wrote (spot_of w)) e }
 
 -- nothing is left, so it is all there
-pub nothing_left : (w s : Spot) (rest : List ℕ) → [] ≡ rest → w ≡ wrote s rest → s ≡ w
-nothing_left w s rest e h = wrote_none s ∙ ap (wrote s) e ∙ sym h
+pub nothing_left : (w s : Writer) (whole rest : List ℕ) → [] ≡ rest → Leaves w s whole rest → Wrote w s whole
+unfolding wrote
+nothing_left w s whole rest e h = record { same_buffer = h.same_buffer; written = sym (h.left ∙ ap (wrote (spot_of s)) (sym e)) }
 
-module _ (w s t : Spot) where
+module _ (w s t : Writer) (whole : List ℕ) where
   -- the rest is x and then y, and x was written
-  pub turn : (rest x y : List ℕ) → rest ≡ x ++ y → w ≡ wrote s rest → t ≡ wrote s x → w ≡ wrote t y
-  turn rest x y e h f = h ∙ ap (wrote s) e ∙ wrote_append s x y ∙ ap (λ (k : Spot). wrote k y) (sym f)
+  pub turn : (rest x y : List ℕ) → rest ≡ x ++ y → Leaves w s whole rest → Wrote s t x → Leaves w t whole y
+  turn rest x y e h f =
+      record {
+        same_buffer = f.same_buffer ∙ h.same_buffer;
+        left = h.left ∙ ap (wrote (spot_of s)) e ∙ wrote_append (spot_of s) x y ∙ ap (λ (k : Spot). wrote k y) (sym f.written);
+      }
 
-  module _ (text : List ℕ) (i : ℕ) (h : w ≡ wrote s (drop i text)) where
-    pub text_turn : i < length text → t ≡ wrote s (get_or text i 0 ∷ []) → w ≡ wrote t (drop (i + 1) text)
+  module _ (text : List ℕ) (i : ℕ) (h : Leaves w s whole (drop i text)) where
+    pub text_turn : i < length text → Wrote s t (get_or text i 0 ∷ []) → Leaves w t whole (drop (i + 1) text)
     text_turn l f = turn (drop i text) (get_or text i 0 ∷ []) (drop (i + 1) text) (rw (add-one, drop-cons text i 0)) h f
 
-    pub text_end : length text ≤ i → s ≡ w
-    text_end l = nothing_left w s (drop i text) (sym (drop_of_length-le text l)) h
+    pub text_end : length text ≤ i → Wrote w s whole
+    text_end l = nothing_left w s whole (drop i text) (sym (drop_of_length-le text l)) h
 
-  module _ (base left v d : ℕ) (h : w ≡ wrote s (digits_of base left v)) where
-    pub digits_turn : 0 < left → d ≡ digit (v / base ^ (left - 1) % base) → t ≡ wrote s (d ∷ []) → w ≡ wrote t (digits_of base (left - 1) v)
-    digits_turn l e f = turn (digits_of base left v) (d ∷ []) (digits_of base (left - 1) v) (go left l ∙ ap (λ (k : ℕ). k ∷ digits_of base (left - 1) v) (sym e)) h f
+  module _ (base left v d : ℕ) (h : Leaves w s whole (digits_of base left v)) where
+    pub digits_turn : 0 < left → d ≡ digit (v / base ^ (left - 1) % base) → Wrote s t (d ∷ [])
+        → Leaves w t whole (digits_of base (left - 1) v)
+    digits_turn l e f =
+        turn (digits_of base left v) (d ∷ []) (digits_of base (left - 1) v)
+        (go left l ∙ ap (λ (k : ℕ). k ∷ digits_of base (left - 1) v) (sym e))
+        h
+        f
       where
         go : (k : ℕ) → 0 < k → digits_of base k v ≡ digit (v / base ^ (k - 1) % base) ∷ digits_of base (k - 1) v
         go zero l = absurd (omega arith)
@@ -37,47 +58,36 @@ module _ (w s t : Spot) where
             let n : suc k - 1 ≡ k = omega arith in
             rw n (unfold digits_of in refl)
 
-    pub digits_end : left ≤ 0 → s ≡ w
-    digits_end l = nothing_left w s (digits_of base left v) (go left l) h
+    pub digits_end : left ≤ 0 → Wrote w s whole
+    digits_end l = nothing_left w s whole (digits_of base left v) (go left l) h
       where
         go : (k : ℕ) → k ≤ 0 → [] ≡ digits_of base k v
         go zero l = unfold digits_of in refl
         go (suc k) l = absurd (omega arith)
 
-  module _ (regs : List ℕ) (i : ℕ) (h : w ≡ wrote s (regs_from i (drop i regs))) where
-    pub regs_turn : i < length regs → t ≡ wrote s (reg_part i (get_or regs i 0)) → w ≡ wrote t (regs_from (i + 1) (drop (i + 1) regs))
+  module _ (regs : List ℕ) (i : ℕ) (h : Leaves w s whole (regs_from i (drop i regs))) where
+    pub regs_turn : i < length regs → Wrote s t (reg_part i (get_or regs i 0)) → Leaves w t whole (regs_from (i + 1) (drop (i + 1) regs))
     unfolding regs_from
     regs_turn l f =
         turn (regs_from i (drop i regs)) (reg_part i (get_or regs i 0)) (regs_from (i + 1) (drop (i + 1) regs)) (rw (add-one, drop-cons regs i 0)) h f
 
-    pub regs_end : length regs ≤ i → s ≡ w
+    pub regs_end : length regs ≤ i → Wrote w s whole
     unfolding regs_from
-    regs_end l = nothing_left w s (regs_from i (drop i regs)) (ap (regs_from i) (sym (drop_of_length-le regs l))) h
+    regs_end l = nothing_left w s whole (regs_from i (drop i regs)) (ap (regs_from i) (sym (drop_of_length-le regs l))) h
 
-  module _ (before done : List ℕ) (i : ℕ) (h : w ≡ wrote s (pages_from i (drop i before) (drop i done))) where
-    pub pages_turn : i < length before → i < length done → t ≡ wrote s (page_part i (get_or before i 0) (get_or done i 0))
-        → w ≡ wrote t (pages_from (i + 1) (drop (i + 1) before) (drop (i + 1) done))
+  -- the words at the start and at the end that are to come
+  module _ (n : ℕ) (before done : List ℕ) (h : Leaves w s whole (pages_from n before done)) where
+    pub pages_turn : (m n' b a : ℕ) (before' done' : List ℕ) → m ≡ n → n' ≡ n + 1 → before ≡ b ∷ before' → done ≡ a ∷ done'
+        → Wrote s t (page_part m b a) → Leaves w t whole (pages_from n' before' done')
     unfolding pages_from
-    pages_turn l k f =
-        turn (pages_from i (drop i before) (drop i done)) (page_part i (get_or before i 0) (get_or done i 0))
-        (pages_from (i + 1) (drop (i + 1) before) (drop (i + 1) done))
-        (rw (add-one, drop-cons before i 0, drop-cons done i 0))
-        h
-        f
+    pages_turn m n' b a before' done' i j e f g =
+        turn (pages_from n before done) (page_part m b a) (pages_from n' before' done') (rw (e, f, i, j, add-one)) h g
 
-    pub pages_end : length before ≤ i → s ≡ w
-    unfolding pages_from
-    pages_end l =
-        nothing_left w s (pages_from i (drop i before) (drop i done))
-        (ap (λ (r : List ℕ). pages_from i r (drop i done)) (sym (drop_of_length-le before l)))
-        h
-
-    pub pages_short : length done ≤ i → s ≡ w
-    pages_short l =
-        nothing_left w s (pages_from i (drop i before) (drop i done))
-        (go (drop i before) ∙ ap (pages_from i (drop i before)) (sym (drop_of_length-le done l)))
-        h
+    pub pages_end : (length before ≡ 0) ⊎ (length done ≡ 0) → Wrote w s whole
+    pages_end e = nothing_left w s whole (pages_from n before done) (none before done e) h
       where
-        go : (r : List ℕ) → [] ≡ pages_from i r []
-        go [] = unfold pages_from in refl
-        go (b ∷ bs) = unfold pages_from in refl
+        none : (bs as' : List ℕ) → (length bs ≡ 0) ⊎ (length as' ≡ 0) → [] ≡ pages_from n bs as'
+        none [] as' k = unfold pages_from in refl
+        none (b ∷ bs) [] k = unfold pages_from in refl
+        none (b ∷ bs) (a ∷ as') (inl k) = absurd (omega arith)
+        none (b ∷ bs) (a ∷ as') (inr k) = absurd (omega arith)

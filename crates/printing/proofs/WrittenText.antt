@@ -1,5 +1,5 @@
 -- Laws of `wrote`: one byte, a text after another, and a whole text in a buffer that holds it.
-use mathlib.Core.Path.{◌≡◌, refl, sym, ap, ◌∙◌}
+use mathlib.Core.Path.{◌≡◌, refl, sym, ap, ◌∙◌, subst}
 use mathlib.Core.List.{List, [], ◌∷◌, ◌++◌, append_assoc}
 use Prim.Native.Nat.{ℕ, suc, ◌+◌, ◌≤◌, ◌<◌}
 use native.Mathlib.Omega.{arith}
@@ -7,7 +7,8 @@ use native.Mathlib.Numerals.{add-one}
 use lib.ListN.{length, set, length-set}
 use lib.Seq.{sets}
 use borrow.Author.Tests.{lt-ltb, le-ltb}
-use Rattle.printing.specs.Writing.{Spot, spot, put_at, wrote}
+use Rattle.printing.specs.declared.writing.Writer.{Writer}
+use Rattle.printing.specs.Writing.{Spot, spot, put_at, wrote, spot_of, Wrote}
 
 module _ (b : List ℕ) (i x : ℕ) where
   pub put_in : i < length b → spot (set b i x) (i + 1) ≡ wrote (spot b i) (x ∷ [])
@@ -23,17 +24,21 @@ unfolding wrote
 wrote_append s [] y = refl
 wrote_append s (b ∷ x) y = wrote_append (put_at s b) x y
 
-pub wrote_none : (s : Spot) → s ≡ wrote s []
-unfolding wrote
-wrote_none s = refl
+-- no text
+pub wrote_none : (s : Writer) → Wrote s s []
+wrote_none s = record { same_buffer = refl; written = unfold wrote in refl }
 
 -- s, then x, then y
-pub after : (s t u : Spot) (x y : List ℕ) → t ≡ wrote s x → u ≡ wrote t y → u ≡ wrote s (x ++ y)
-after s t u x y e f = f ∙ ap (λ (k : Spot). wrote k y) e ∙ sym (wrote_append s x y)
+pub after : (s t u : Writer) (x y : List ℕ) → Wrote s t x → Wrote t u y → Wrote s u (x ++ y)
+after s t u x y e f =
+    record {
+      same_buffer = f.same_buffer ∙ e.same_buffer;
+      written = f.written ∙ ap (λ (k : Spot). wrote k y) e.written ∙ sym (wrote_append (spot_of s) x y);
+    }
 
 -- x is there, and y comes with z behind it
-pub also : (s t u : Spot) (x y z : List ℕ) → t ≡ wrote s x → u ≡ wrote t (y ++ z) → u ≡ wrote s (x ++ y ++ z)
-also s t u x y z e f = after s t u x (y ++ z) e f ∙ ap (wrote s) (sym (append_assoc x y z))
+pub also : (s t u : Writer) (x y z : List ℕ) → Wrote s t x → Wrote t u (y ++ z) → Wrote s u (x ++ y ++ z)
+also s t u x y z e f = subst (Wrote s u) (sym (append_assoc x y z)) (after s t u x (y ++ z) e f)
 
 -- where the text fits, every byte of it stands in the buffer
 pub wrote_sets : (b : List ℕ) (i : ℕ) (x : List ℕ) → i + length x ≤ length b → wrote (spot b i) x ≡ spot (sets b i x) (i + length x)

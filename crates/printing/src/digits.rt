@@ -2,9 +2,9 @@
 ghost use Rattle.std.specs.Prelude.{◌≡◌, ◌/◌, ◌%◌, ◌^◌, ◌≤◌, ◌<◌};
 ghost use Rattle.printing.specs.Digits.{digit, digits_of, hex_of, decimal_of};
 ghost use Rattle.printing.specs.Lines.{field};
-ghost use Rattle.printing.specs.Writing.{spot, wrote};
+ghost use Rattle.printing.specs.Writing.{Wrote};
 
-use super::writing;
+use super::writing::Writer;
 
 // v without its last k digits.
 pub fn without(v: usize, base: usize, k: usize) -> usize
@@ -12,10 +12,8 @@ pub fn without(v: usize, base: usize, k: usize) -> usize
     ensures { result ≡ v / base ^ k }
 {
     let mut rest = v;
-    let mut left = k;
-    while left > 0 {
-        rest = rest / base;
-        left -= 1;
+    for _ in 0..k {
+        rest /= base;
     }
     rest
 }
@@ -27,49 +25,55 @@ pub fn digit_at(v: usize, base: usize, k: usize) -> u8
 {
     let d = without(v, base, k) % base;
     if d < 10 {
-        (48 + d) as u8
+        b'0' + d as u8
     } else {
-        (55 + d) as u8
+        b'A' + (d - 10) as u8
     }
-}
-
-pub fn put_digits(buf: &mut [u8], at: usize, v: usize, base: usize, k: usize) -> usize
-    requires { (0 < base) × (base ≤ 16) }
-    ensures { spot buf.new result ≡ wrote (spot buf.old at) (digits_of base k v) }
-{
-    let mut next = at;
-    let mut left = k;
-    while left > 0 {
-        left -= 1;
-        next = writing::put(buf, next, digit_at(v, base, left));
-    }
-    next
 }
 
 // How many digits v has in decimal, with no leading zero.
 pub fn width(v: usize) -> usize
     ensures { digits_of 10 result v ≡ decimal_of v }
 {
-    let mut left = 10;
-    while left > 1 {
-        if digit_at(v, 10, left - 1) != 48 {
-            return left;
+    for behind in (1..10).rev() {
+        if digit_at(v, 10, behind) != b'0' {
+            return behind + 1;
         }
-        left -= 1;
     }
-    left
+    1
 }
 
-pub fn put_decimal(buf: &mut [u8], at: usize, v: usize) -> usize
-    ensures { spot buf.new result ≡ wrote (spot buf.old at) (field (decimal_of v)) }
-{
-    let next = writing::put(buf, at, 9);
-    put_digits(buf, next, v, 10, width(v))
-}
+impl Writer<'_> {
+    // The low k digits of v.
+    pub fn put_digits(&mut self, v: usize, base: usize, k: usize)
+        requires { (0 < base) × (base ≤ 16) }
+        ensures { Wrote self.old self.new (digits_of base k v) }
+    {
+        for behind in (0..k).rev() {
+            self.put(digit_at(v, base, behind));
+        }
+    }
 
-pub fn put_hex(buf: &mut [u8], at: usize, v: usize, k: usize) -> usize
-    ensures { spot buf.new result ≡ wrote (spot buf.old at) (field (hex_of k v)) }
-{
-    let next = writing::put(buf, at, 9);
-    put_digits(buf, next, v, 16, k)
+    // v in decimal.
+    pub fn put_number(&mut self, v: usize)
+        ensures { Wrote self.old self.new (decimal_of v) }
+    {
+        self.put_digits(v, 10, width(v));
+    }
+
+    // A tab and v in decimal.
+    pub fn put_decimal(&mut self, v: usize)
+        ensures { Wrote self.old self.new (field (decimal_of v)) }
+    {
+        self.put(b'\t');
+        self.put_number(v);
+    }
+
+    // A tab and the low k hex digits of v.
+    pub fn put_hex(&mut self, v: usize, k: usize)
+        ensures { Wrote self.old self.new (field (hex_of k v)) }
+    {
+        self.put(b'\t');
+        self.put_digits(v, 16, k);
+    }
 }

@@ -3,114 +3,103 @@ ghost use Rattle.std.specs.Prelude.{◌≡◌, ◌++◌};
 ghost use Rattle.printing.specs.Digits.{hex_of, decimal_of};
 ghost use Rattle.printing.specs.Lines.{LF, field, stop_line, reg_line, start_line, page_line, bad_line};
 ghost use Rattle.printing.specs.Answer.{reg_part, page_part, regs_from, pages_from};
-ghost use Rattle.printing.specs.Writing.{spot, wrote};
+ghost use Rattle.printing.specs.Writing.{Wrote};
 
-use super::{digits, writing};
+use super::writing::Writer;
 
-// A name and its first field.
-pub fn named(buf: &mut [u8], at: usize, name: &[u8], v: usize) -> usize
-    ensures { spot buf.new result ≡ wrote (spot buf.old at) (name.now ++ field (decimal_of v)) }
-{
-    let next = writing::put_all(buf, at, name);
-    digits::put_decimal(buf, next, v)
-}
-
-// A last field, and LF.
-pub fn last_decimal(buf: &mut [u8], at: usize, v: usize) -> usize
-    ensures { spot buf.new result ≡ wrote (spot buf.old at) (field (decimal_of v) ++ LF) }
-{
-    let next = digits::put_decimal(buf, at, v);
-    writing::put(buf, next, 10)
-}
-
-pub fn last_hex(buf: &mut [u8], at: usize, v: usize, k: usize) -> usize
-    ensures { spot buf.new result ≡ wrote (spot buf.old at) (field (hex_of k v) ++ LF) }
-{
-    let next = digits::put_hex(buf, at, v, k);
-    writing::put(buf, next, 10)
-}
-
-pub fn stop_line(buf: &mut [u8], at: usize, number: usize, place: usize, count: usize) -> usize
-    ensures { spot buf.new result ≡ wrote (spot buf.old at) (stop_line number place count) }
-{
-    let first = named(buf, at, b"STOP", number);
-    let second = digits::put_hex(buf, first, place, 6);
-    last_decimal(buf, second, count)
-}
-
-pub fn start_line(buf: &mut [u8], at: usize, pc: usize, code: usize, mask: usize) -> usize
-    ensures { spot buf.new result ≡ wrote (spot buf.old at) (start_line pc code mask) }
-{
-    let name = writing::put_all(buf, at, b"START");
-    let first = digits::put_hex(buf, name, pc, 6);
-    let second = digits::put_decimal(buf, first, code);
-    last_decimal(buf, second, mask)
-}
-
-pub fn reg_line(buf: &mut [u8], at: usize, n: usize, v: usize) -> usize
-    ensures { spot buf.new result ≡ wrote (spot buf.old at) (reg_line n v) }
-{
-    let first = named(buf, at, b"REG", n);
-    last_hex(buf, first, v, 8)
-}
-
-pub fn page_line(buf: &mut [u8], at: usize, n: usize, w: usize) -> usize
-    ensures { spot buf.new result ≡ wrote (spot buf.old at) (page_line n w) }
-{
-    let first = named(buf, at, b"PAGE", n);
-    last_hex(buf, first, w, 4)
-}
-
-pub fn bad_line(buf: &mut [u8], at: usize, n: usize) -> usize
-    ensures { spot buf.new result ≡ wrote (spot buf.old at) (bad_line n) }
-{
-    let name = writing::put_all(buf, at, b"BAD");
-    last_decimal(buf, name, n)
-}
-
-// A register that is zero has no line.
-pub fn reg_part(buf: &mut [u8], at: usize, n: usize, v: u32) -> usize
-    ensures { spot buf.new result ≡ wrote (spot buf.old at) (reg_part n v) }
-{
-    if v == 0 {
-        return at;
+impl Writer<'_> {
+    // A name and its first field.
+    pub fn named(&mut self, name: &[u8], v: usize)
+        ensures { Wrote self.old self.new (name.now ++ field (decimal_of v)) }
+    {
+        self.put_all(name);
+        self.put_decimal(v);
     }
-    reg_line(buf, at, n, v as usize)
-}
 
-// A page word that stayed has no line.
-pub fn page_part(buf: &mut [u8], at: usize, n: usize, before: u16, after: u16) -> usize
-    ensures { spot buf.new result ≡ wrote (spot buf.old at) (page_part n before after) }
-{
-    if before == after {
-        return at;
+    // A last field, and LF.
+    pub fn last_decimal(&mut self, v: usize)
+        ensures { Wrote self.old self.new (field (decimal_of v) ++ LF) }
+    {
+        self.put_decimal(v);
+        self.put(b'\n');
     }
-    page_line(buf, at, n, after as usize)
-}
 
-pub fn put_regs(buf: &mut [u8], at: usize, regs: &[u32]) -> usize
-    ensures { spot buf.new result ≡ wrote (spot buf.old at) (regs_from 0 regs.now) }
-{
-    let mut next = at;
-    let mut i = 0;
-    while i < regs.len() {
-        next = reg_part(buf, next, i, regs[i]);
-        i += 1;
+    pub fn last_hex(&mut self, v: usize, k: usize)
+        ensures { Wrote self.old self.new (field (hex_of k v) ++ LF) }
+    {
+        self.put_hex(v, k);
+        self.put(b'\n');
     }
-    next
-}
 
-pub fn put_pages(buf: &mut [u8], at: usize, before: &[u16], after: &[u16]) -> usize
-    ensures { spot buf.new result ≡ wrote (spot buf.old at) (pages_from 0 before.now after.now) }
-{
-    let mut next = at;
-    let mut i = 0;
-    while i < before.len() {
-        if after.len() <= i {
-            return next;
+    pub fn stop_line(&mut self, number: usize, place: usize, count: usize)
+        ensures { Wrote self.old self.new (stop_line number place count) }
+    {
+        self.named(b"STOP", number);
+        self.put_hex(place, 6);
+        self.last_decimal(count);
+    }
+
+    pub fn start_line(&mut self, pc: usize, code: usize, mask: usize)
+        ensures { Wrote self.old self.new (start_line pc code mask) }
+    {
+        self.put_all(b"START");
+        self.put_hex(pc, 6);
+        self.put_decimal(code);
+        self.last_decimal(mask);
+    }
+
+    pub fn reg_line(&mut self, n: usize, v: usize)
+        ensures { Wrote self.old self.new (reg_line n v) }
+    {
+        self.named(b"REG", n);
+        self.last_hex(v, 8);
+    }
+
+    pub fn page_line(&mut self, n: usize, w: usize)
+        ensures { Wrote self.old self.new (page_line n w) }
+    {
+        self.named(b"PAGE", n);
+        self.last_hex(w, 4);
+    }
+
+    pub fn bad_line(&mut self, n: usize)
+        ensures { Wrote self.old self.new (bad_line n) }
+    {
+        self.put_all(b"BAD");
+        self.last_decimal(n);
+    }
+
+    // A register that is zero has no line.
+    pub fn reg_part(&mut self, n: usize, v: u32)
+        ensures { Wrote self.old self.new (reg_part n v) }
+    {
+        if v != 0 {
+            self.reg_line(n, v as usize);
         }
-        next = page_part(buf, next, i, before[i], after[i]);
-        i += 1;
     }
-    next
+
+    // A page word that stayed has no line.
+    pub fn page_part(&mut self, n: usize, before: u16, after: u16)
+        ensures { Wrote self.old self.new (page_part n before after) }
+    {
+        if before != after {
+            self.page_line(n, usize::from(after));
+        }
+    }
+
+    pub fn put_regs(&mut self, regs: &[u32])
+        ensures { Wrote self.old self.new (regs_from 0 regs.now) }
+    {
+        for (n, v) in regs.iter().enumerate() {
+            self.reg_part(n, *v);
+        }
+    }
+
+    pub fn put_pages(&mut self, before: &[u16], after: &[u16])
+        ensures { Wrote self.old self.new (pages_from 0 before.now after.now) }
+    {
+        for (n, (b, a)) in before.iter().zip(after).enumerate() {
+            self.page_part(n, *b, *a);
+        }
+    }
 }

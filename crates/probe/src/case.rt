@@ -9,103 +9,138 @@
 //     number of pieces of memory, 2 bytes
 //     pieces, each within memory: address, 4 bytes; length, 1 byte; the bytes
 //
-// What no piece names is zero. Between the kind with the lengths, 8 bytes, and the pieces stand at most 1,346 bytes.
-ghost use Rattle.std.specs.Prelude.{◌≡◌, ◌≤◌, length};
+// What no piece names is zero.
+ghost use Rattle.std.specs.Prelude.{◌≤◌, length};
 
-use crate::input;
-use streams::Course;
+use streams::Trouble;
 
-// What a case begins with.
+// What a case asks for.
+#[derive(Clone, Copy, Debug, PartialEq, Eq)]
+pub enum Kind {
+    Step,
+    Run,
+    LookUp,
+    Plain, // a step that is a move or a compare, byte by byte
+}
+
+impl TryFrom<u8> for Kind {
+    type Error = Trouble;
+
+    fn try_from(number: u8) -> Result<Kind, Trouble> {
+        match number {
+            0 => Ok(Kind::Step),
+            1 => Ok(Kind::Run),
+            2 => Ok(Kind::LookUp),
+            3 => Ok(Kind::Plain),
+            _ => Err(Trouble::Malformed),
+        }
+    }
+}
+
+// What a case begins with: its kind, and how long its lists are.
 #[derive(Drop)]
 pub struct Head {
-    pub kind: u32,
+    pub kind: Kind,
     pub mem: usize,
     pub map: usize,
     pub regs: usize,
+    ghost mem_fits: { mem ≤ 270336 },
+    ghost map_fits: { map ≤ 600 },
+    ghost regs_fit: { regs ≤ 32 },
+}
+
+impl TryFrom<[u8; 8]> for Head {
+    type Error = Trouble;
+
+    fn try_from(bytes: [u8; 8]) -> Result<Head, Trouble> {
+        let [kind, m1, m2, m3, m4, w1, w2, regs] = bytes;
+        let kind = Kind::try_from(kind)?;
+        let mem = u32::from_be_bytes([m1, m2, m3, m4]) as usize;
+        let map = usize::from(u16::from_be_bytes([w1, w2]));
+        let regs = usize::from(regs);
+        if mem > 270336 || map > 600 || regs > 32 {
+            return Err(Trouble::Malformed);
+        }
+        Ok(Head {
+            kind,
+            mem,
+            map,
+            regs,
+        })
+    }
 }
 
 // The scalars, with the number of pieces.
-#[derive(Drop)]
+#[derive(Clone, Copy)]
 pub struct Scalars {
     pub pc: u32,
     pub code: u32,
     pub mask: u32,
     pub budget: u32,
-    pub pieces: u32,
+    pub pieces: u16,
 }
 
-pub fn head_of(bytes: &[u8; 8]) -> Head {
-    Head {
-        kind: input::byte(bytes, 0),
-        mem: input::word(bytes, 1) as usize,
-        map: input::half(bytes, 5) as usize,
-        regs: input::byte(bytes, 7) as usize,
+fn take_word(rt: &HostRuntime) -> Result<u32, Trouble> {
+    Ok(u32::from_be_bytes(streams::next_bytes(rt)?))
+}
+
+pub fn take_scalars(rt: &HostRuntime) -> Result<Scalars, Trouble> {
+    Ok(Scalars {
+        pc: take_word(rt)?,
+        code: take_word(rt)?,
+        mask: take_word(rt)?,
+        budget: take_word(rt)?,
+        pieces: u16::from_be_bytes(streams::next_bytes(rt)?),
+    })
+}
+
+// A number that N bytes make.
+pub trait Number<const N: usize>: Drop {
+    fn of(bytes: [u8; N]) -> Self;
+}
+
+impl Number<2> for u16 {
+    fn of(bytes: [u8; 2]) -> u16 {
+        u16::from_be_bytes(bytes)
     }
 }
 
-// The scalars from an index on.
-pub fn scalars_of(bytes: &[u8; 1346], at: usize) -> Scalars
-    requires { at ≤ 1328 }
+impl Number<4> for u32 {
+    fn of(bytes: [u8; 4]) -> u32 {
+        u32::from_be_bytes(bytes)
+    }
+}
+
+// A list of numbers.
+pub fn take_list<const N: usize, T: Number<N>>(
+    rt: &HostRuntime,
+    list: &mut [T],
+) -> Result<(), Trouble>
+    requires fits { length list.old ≤ 600 }
+    requires small { N ≤ 4 }
 {
-    Scalars {
-        pc: input::word(bytes, at),
-        code: input::word(bytes, at + 4),
-        mask: input::word(bytes, at + 8),
-        budget: input::word(bytes, at + 12),
-        pieces: input::half(bytes, at + 16),
+    let mut room = [[0; N]; 600];
+    let bytes = &mut room[..list.len()];
+    streams::fill_within(rt, bytes.as_flattened_mut())?;
+    for (item, chunk) in list.iter_mut().zip(bytes) {
+        *item = T::of(*chunk);
     }
+    Ok(())
 }
 
-// As many page words as a case may have; it uses its own.
-pub fn map_of(bytes: &[u8; 1346]) -> [u16; 600]
-    ensures { 600 ≡ length result }
-{
-    let mut map = [0u16; 600];
-    let mut i = 0;
-    while i < 600 {
-        map[i] = input::half(bytes, 2 * i) as u16;
-        i += 1;
-    }
-    map
-}
-
-// As many registers as a case may have, from an index on; it uses its own.
-pub fn regs_of(bytes: &[u8; 1346], at: usize) -> [u32; 32]
-    requires { at ≤ 1200 }
-    ensures { 32 ≡ length result }
-{
-    let mut regs = [0u32; 32];
-    let mut i = 0;
-    while i < 32 {
-        regs[i] = input::word(bytes, at + 4 * i);
-        i += 1;
-    }
-    regs
-}
-
-fn take_piece(rt: &HostRuntime, mem: &mut [u8]) -> Course {
-    let mut head = [0u8; 5];
-    let course = streams::fill_within(rt, &mut head);
-    if !streams::is_fine(course) {
-        return course;
-    }
-    let from = input::word(&head, 0) as usize;
-    let to = from + input::byte(&head, 4) as usize;
-    if mem.len() < to {
-        return Course::Malformed;
-    }
-    streams::fill_within(rt, &mut mem[from..to])
+fn take_piece(rt: &HostRuntime, mem: &mut [u8]) -> Result<(), Trouble> {
+    let from = take_word(rt)? as usize;
+    let [len] = streams::next_bytes::<1>(rt)?;
+    let piece = mem
+        .get_mut(from..from + usize::from(len))
+        .ok_or(Trouble::Malformed)?;
+    streams::fill_within(rt, piece)
 }
 
 // Memory comes as zeros.
-pub fn take_memory(rt: &HostRuntime, mem: &mut [u8], pieces: u32) -> Course {
-    let mut left = pieces;
-    while left > 0 {
-        let course = take_piece(rt, mem);
-        if !streams::is_fine(course) {
-            return course;
-        }
-        left -= 1;
+pub fn take_memory(rt: &HostRuntime, mem: &mut [u8], pieces: u16) -> Result<(), Trouble> {
+    for _ in 0..pieces {
+        take_piece(rt, mem)?;
     }
-    Course::Fine
+    Ok(())
 }

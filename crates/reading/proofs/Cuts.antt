@@ -1,57 +1,19 @@
 -- A text cut at its marks: from an index on, at the first mark, and how many marks there are.
 use mathlib.Core.Path.{◌≡◌, refl, ◌∙◌}
-use mathlib.Core.Bool.{Bool, true, false}
+use mathlib.Core.Bool.{Bool, true, false, cond}
 use mathlib.Core.List.{List, [], ◌∷◌}
 use Prim.Native.Nat.{ℕ, suc, ◌+◌, ◌-◌, ◌≤◌, ◌<◌}
-use native.Mathlib.Numerals.{add-one}
 use native.Mathlib.Omega.{arith}
 use lib.Dec.{eqb}
-use lib.ListN.{length, get_or, take, drop, drop_of_length-le, length-drop}
-use lib.Seq.{drop-cons, take_all, take-nil}
-use borrow.Author.Tests.{eq-eqb, ne_eqb}
+use lib.ListN.{length, take, drop, drop_of_length-le, length-drop}
+use lib.Seq.{take_all}
+use Rattle.std.specs.List.{position, position_or_len, slice_range}
+use Rattle.std.specs.Option.{unwrap_or}
+use Rattle.std.proofs.lemmas.List.Recursion.{is_position_or_len}
 use Rattle.words.specs.Pick.{pick}
 use Rattle.reading.specs.Cut.{span, before, after, count}
 
-module _ (mark : ℕ) (s : List ℕ) (i : ℕ) where
-  at_mark : i < length s → get_or s i 0 ≡ mark → span mark (drop i s) ≡ 0
-  unfolding span
-  at_mark h e = rw (drop-cons s i 0, eq-eqb _ _ e)
-
-  not_mark : i < length s → (get_or s i 0 ≡ mark → ⊥) → span mark (drop i s) ≡ suc (span mark (drop (i + 1) s))
-  unfolding span
-  not_mark h e = rw (add-one, drop-cons s i 0, ne_eqb _ _ e)
-
-  at_end : length s ≤ i → span mark (drop i s) ≡ 0
-  unfolding span
-  at_end h = rw (drop_of_length-le s h)
-
-  module _ (inv : span mark s ≡ i + span mark (drop i s)) where
-    pub find_hit : i < length s → get_or s i 0 ≡ mark → i ≡ span mark s
-    find_hit h e = omega (arith, at_mark h e)
-
-    pub find_turn : i < length s → (get_or s i 0 ≡ mark → ⊥) → span mark s ≡ i + 1 + span mark (drop (i + 1) s)
-    find_turn h e = omega (arith, not_mark h e)
-
-    pub find_end : length s ≤ i → i ≡ span mark s
-    find_end h = omega (arith, at_end h)
-
--- ---- the two sides of a mark, as parts of a slice
-module _ (mark : ℕ) (s : List ℕ) (r : ℕ) (e : r ≡ span mark s) where
-  pub front_is : take r s ≡ before mark s
-  unfolding before
-  front_is = rw e
-
-  pub back_is : r < length s → take (length s - (r + 1)) (drop (r + 1) s) ≡ after mark s
-  unfolding after
-  back_is h = take_all (length s - (r + 1)) (drop (r + 1) s) (simp length-drop (omega arith)) ∙ rw e
-
-  pub back_none : length s ≤ r → take (length s - r) (drop r s) ≡ after mark s
-  unfolding after
-  back_none h =
-      let k : length s ≤ span mark s + 1 = omega arith in
-      rw (drop_of_length-le s h, drop_of_length-le s k, take-nil)
-
--- ---- marks that are counted
+-- ---- the first mark
 pub span_within : (mark : ℕ) (bs : List ℕ) → span mark bs ≤ length bs
 unfolding span
 span_within mark [] = omega arith
@@ -61,6 +23,37 @@ span_within mark (b ∷ bs) = go (eqb b mark) (span_within mark bs)
     go true h = omega arith
     go false h = omega arith
 
+span_first : (mark : ℕ) (s : List ℕ) → span mark s ≡ position_or_len (λ b. eqb b mark) s
+unfolding span
+span_first mark s = is_position_or_len (span mark) (λ b. eqb b mark) refl (λ b bs. by (eqb b mark) (span mark bs)) s
+  where
+    by : (t : Bool) (n : ℕ) → pick t 0 (suc n) ≡ cond t 0 (1 + n)
+    by true n = refl
+    by false n = omega arith
+
+pub find_is : (mark : ℕ) (s : List ℕ) (n : ℕ) → n ≡ unwrap_or (position (λ b. eqb b mark) s) (length s) → n ≡ span mark s
+find_is mark s n e =
+    let f : span mark s ≡ position_or_len (λ b. eqb b mark) s = span_first mark s in
+    let h : span mark s ≤ length s = span_within mark s in
+    grind arith
+
+-- ---- the two sides of a mark, as parts of a slice
+module _ (mark : ℕ) (s : List ℕ) (r : ℕ) (e : r ≡ span mark s) where
+  pub front_is : take r s ≡ before mark s
+  unfolding before
+  front_is = rw e
+
+  pub back_some : (t : List ℕ) → r + 1 ≤ length s → t ≡ slice_range s (r + 1) (length s) → t ≡ after mark s
+  unfolding after
+  back_some t h f = f ∙ take_all (length s - (r + 1)) (drop (r + 1) s) (simp length-drop (omega arith)) ∙ rw e
+
+  pub back_none : length s < r + 1 → [] ≡ after mark s
+  unfolding after
+  back_none h =
+      let k : length s ≤ span mark s + 1 = omega arith in
+      rw (drop_of_length-le s k)
+
+-- ---- marks that are counted
 pub count_none : (mark : ℕ) (bs : List ℕ) → length bs ≤ span mark bs → count mark bs ≡ 0
 unfolding span count
 count_none mark [] h = refl

@@ -4,7 +4,6 @@ mod Numbers
 mod SameText
 mod LineFields
 mod Stores
-mod LineSteps
 mod Ranges
 mod Order
 mod ReadLines

@@ -1,6 +1,6 @@
 -- Numbers read digit by digit.
 use mathlib.Core.Path.{◌≡◌, refl, ◌∙◌}
-use mathlib.Core.Bool.{Bool, true, false}
+use mathlib.Core.Bool.{Bool, true, false, ◌&&◌}
 use mathlib.Core.List.{List, [], ◌∷◌}
 use Prim.Native.Nat.{ℕ, suc, ◌+◌, ◌-◌, ◌*◌, ◌%◌, ◌^◌, ◌≤◌, ◌<◌}
 use native.Mathlib.Numerals.{add-one}
@@ -9,46 +9,64 @@ use native.Mathlib.Omega.{arith}
 use lib.Dec.{eqb, leb, ltb}
 use lib.ListN.{length, get_or, drop, drop_of_length-le}
 use lib.Seq.{drop-cons}
-use borrow.Author.Tests.{lt-ltb, le-ltb, le-leb, lt-leb, eq-eqb, ne_eqb, ltb-true, eqb-true}
+use borrow.Author.Tests.{lt-ltb, le-leb, lt-leb, eq-eqb, ne_eqb, ltb-true, eqb-true, leb-true, leb-false}
 use Rattle.words.specs.Pick.{pick, both}
 use Rattle.reading.specs.Digits.{digit_of, all_digits, value_after, value_of, no_leading_zero, is_decimal, is_hex, is_bytes}
-use Rattle.reading.specs.declared.digits.Num.{Num}
-use Rattle.reading.specs.declared.digits.Num.TheVariants.{Got, No}
+use Rattle.std.proofs.Common.{Option, Some, None}
+use Rattle.std.specs.List.{list_all}
+use Rattle.std.specs.Option.{is_some}
+use Rattle.std.proofs.lemmas.List.Recursion.{same_from_clauses}
 use Rattle.words.proofs.Tests.{both_true, pick_false}
+
+-- ---- what an option that a test chooses says
+pub told_no : (t : Bool) (v : ℕ) (r : Option ℕ) → r ≡ pick t (Some v) None → r ≡ None → t ≡ false
+told_no true v r e f = cc
+told_no false v r e f = refl
+
+pub told_right : (t : Bool) (v n : ℕ) (r : Option ℕ) → r ≡ pick t (Some v) None → r ≡ Some n → t ≡ true
+told_right true v n r e f = refl
+told_right false v n r e f = cc
+
+pub told_value : (t : Bool) (v n : ℕ) (r : Option ℕ) → r ≡ pick t (Some v) None → r ≡ Some n → v ≡ n
+told_value true v n r e f = cc
+told_value false v n r e f = cc
 
 -- ---- a digit
 module _ (b : ℕ) where
-  pub digit_under : b < 48 → 16 ≡ digit_of b
-  unfolding digit_of
+  abbrev pub digit_told : Option ℕ
+  digit_told = pick (ltb (digit_of b) 16) (Some (digit_of b)) None
+
+  some_digit : (d : ℕ) → d ≡ digit_of b → d < 16 → Some d ≡ digit_told
+  some_digit d e h = rw (← e, lt-ltb d 16 h)
+
+  no_digit : 16 ≡ digit_of b → None ≡ digit_told
+  no_digit e = rw (← e)
+
+  pub digit_under : b < 48 → None ≡ digit_told
   digit_under h =
       let k : b < 65 = omega arith in
-      rw (lt-leb 48 b h, lt-leb 65 b k)
+      no_digit (unfold digit_of in rw (lt-leb 48 b h, lt-leb 65 b k))
 
-  pub digit_nine : 48 ≤ b → b ≤ 57 → b - 48 ≡ digit_of b
-  unfolding digit_of
-  digit_nine h k = rw (le-leb 48 b h, le-leb b 57 k)
+  pub digit_nine : 48 ≤ b → b ≤ 57 → (d : ℕ) → d ≡ b - 48 → Some d ≡ digit_told
+  digit_nine h k d e = some_digit d (unfold digit_of in rw (le-leb 48 b h, le-leb b 57 k, e)) (omega arith)
 
-  pub digit_between : 57 < b → b < 65 → 16 ≡ digit_of b
-  unfolding digit_of
+  pub digit_between : 57 < b → b < 65 → None ≡ digit_told
   digit_between h k =
       let l : 48 ≤ b = omega arith in
-      rw (le-leb 48 b l, lt-leb b 57 h, lt-leb 65 b k)
+      no_digit (unfold digit_of in rw (le-leb 48 b l, lt-leb b 57 h, lt-leb 65 b k))
 
-  pub digit_letter : 65 ≤ b → b ≤ 70 → b - 55 ≡ digit_of b
-  unfolding digit_of
-  digit_letter h k =
+  pub digit_letter : 65 ≤ b → b ≤ 70 → (d : ℕ) → d ≡ b - 65 → Some (d + 10) ≡ digit_told
+  digit_letter h k d e =
       let l : 48 ≤ b = omega arith in
       let m : 57 < b = omega arith in
-      let n : b - 55 ≡ b - 65 + 10 = omega arith in
-      rw (le-leb 48 b l, lt-leb b 57 m, le-leb 65 b h, le-leb b 70 k) n
+      some_digit (d + 10) (unfold digit_of in rw (le-leb 48 b l, lt-leb b 57 m, le-leb 65 b h, le-leb b 70 k, e)) (omega arith)
 
-  pub digit_over : 70 < b → 16 ≡ digit_of b
-  unfolding digit_of
+  pub digit_over : 70 < b → None ≡ digit_told
   digit_over h =
       let l : 48 ≤ b = omega arith in
       let m : 57 < b = omega arith in
       let n : 65 ≤ b = omega arith in
-      rw (le-leb 48 b l, lt-leb b 57 m, le-leb 65 b n, lt-leb b 70 h)
+      no_digit (unfold digit_of in rw (le-leb 48 b l, lt-leb b 57 m, le-leb 65 b n, lt-leb b 70 h))
 
 -- ---- a number up to `last`
 pub value_grows : (base n : ℕ) (bs : List ℕ) → 0 < base → n ≤ value_after base n bs
@@ -59,9 +77,13 @@ value_grows base n (b ∷ bs) h =
     let more : n * base + digit_of b ≤ value_after base (n * base + digit_of b) bs = value_grows base (n * base + digit_of b) bs h in
     omega arith
 
-abbrev pub answer : ℕ → ℕ → ℕ → List ℕ → Num
+abbrev pub answer : ℕ → ℕ → ℕ → List ℕ → Option ℕ
 answer base last n bs =
-    pick (both (all_digits base bs) (leb (value_after base n bs) last)) (Got (value_after base n bs)) No
+    pick (both (all_digits base bs) (leb (value_after base n bs) last)) (Some (value_after base n bs)) None
+
+abbrev pub longer_told : ℕ → ℕ → ℕ → ℕ → Option ℕ
+longer_told n b base last =
+    pick (both (ltb (digit_of b) base) (leb (n * base + digit_of b) last)) (Some (n * base + digit_of b)) None
 
 pub digits_at : (base : ℕ) (s : List ℕ) (i : ℕ) → i < length s
     → all_digits base (drop i s) ≡ both (ltb (digit_of (get_or s i 0)) base) (all_digits base (drop (i + 1) s))
@@ -74,40 +96,61 @@ module _ (base last n : ℕ) (s : List ℕ) (i : ℕ) where
   value_at h = rw (add-one, drop-cons s i 0)
 
   module _ (inv : answer base last 0 s ≡ answer base last n (drop i s)) where
-    pub number_done : length s ≤ i → n ≤ last → Got n ≡ answer base last 0 s
+    pub number_done : length s ≤ i → n ≤ last → Some n ≡ answer base last 0 s
     unfolding all_digits value_after
     number_done h k = rw (inv, drop_of_length-le s h, le-leb n last k)
 
-    module _ (d : ℕ) (h : i < length s) (e : d ≡ digit_of (get_or s i 0)) where
-      pub number_bad : base ≤ d → No ≡ answer base last 0 s
-      number_bad k = rw (inv, digits_at base s i h, ← e, le-ltb d base k)
+    module _ (h : i < length s) (r : Option ℕ) (f : r ≡ longer_told n (get_or s i 0) base last) where
+      abbrev b : ℕ
+      b = get_or s i 0
 
-      module _ (m : ℕ) (l : d < base) (f : m ≡ n * base + d) where
+      turned : answer base last 0 s ≡ pick (both (both (ltb (digit_of b) base) (all_digits base (drop (i + 1) s))) (leb (value_after base (n * base + digit_of b) (drop (i + 1) s)) last)) (Some (value_after base (n * base + digit_of b) (drop (i + 1) s))) None
+      turned = rw (inv, digits_at base s i h, value_at h)
+
+      pub number_none : 0 < base → r ≡ None → None ≡ answer base last 0 s
+      number_none z k = rw turned (by (ltb (digit_of b) base) (told_no _ _ r f k))
+        where
+          by : (t : Bool) → both t (leb (n * base + digit_of b) last) ≡ false
+              → None ≡ pick (both (both t (all_digits base (drop (i + 1) s))) (leb (value_after base (n * base + digit_of b) (drop (i + 1) s)) last)) (Some (value_after base (n * base + digit_of b) (drop (i + 1) s))) None
+          by true l =
+              let more : n * base + digit_of b ≤ value_after base (n * base + digit_of b) (drop (i + 1) s) = value_grows base (n * base + digit_of b) (drop (i + 1) s) z in
+              let high : last < n * base + digit_of b = leb-false _ _ l in
+              let over : last < value_after base (n * base + digit_of b) (drop (i + 1) s) = omega arith in
+              pick_false
+              (all_digits base (drop (i + 1) s))
+              (leb (value_after base (n * base + digit_of b) (drop (i + 1) s)) last)
+              (Some (value_after base (n * base + digit_of b) (drop (i + 1) s)))
+              None
+              (lt-leb (value_after base (n * base + digit_of b) (drop (i + 1) s)) last over)
+          by false l = refl
+
+      module _ (m : ℕ) (k : r ≡ Some m) where
+        told : (ltb (digit_of b) base ≡ true) × (leb (n * base + digit_of b) last ≡ true)
+        told = both_true (ltb (digit_of b) base) (leb (n * base + digit_of b) last) (told_right _ _ m r f k)
+
+        sum_is : n * base + digit_of b ≡ m
+        sum_is = told_value _ _ m r f k
+
         pub number_turn : answer base last 0 s ≡ answer base last m (drop (i + 1) s)
-        number_turn = rw (inv, digits_at base s i h, value_at h, ← e, lt-ltb d base l, ← f)
+        number_turn =
+            let l : ltb (digit_of b) base ≡ true = told.0 in
+            turned ∙ rw (l, sum_is)
 
-        pub number_large : 0 < base → last < m → No ≡ answer base last 0 s
-        number_large z k =
-            let more : m ≤ value_after base m (drop (i + 1) s) = value_grows base m (drop (i + 1) s) z in
-            let high : last < value_after base m (drop (i + 1) s) = omega arith in
-            rw number_turn
-            (pick_false
-            (all_digits base (drop (i + 1) s))
-            (leb (value_after base m (drop (i + 1) s)) last)
-            (Got (value_after base m (drop (i + 1) s)))
-            No
-            (lt-leb (value_after base m (drop (i + 1) s)) last high))
+        pub number_within : m ≤ last
+        number_within =
+            let o : n * base + digit_of b ≤ last = leb-true _ _ told.1 in
+            omega (arith, sum_is)
 
 -- ---- decimal numbers
 module _ (last : ℕ) (s : List ℕ) where
-  abbrev pub decimal_told : Num
-  decimal_told = pick (is_decimal last s) (Got (value_of 10 s)) No
+  abbrev pub decimal_told : Option ℕ
+  decimal_told = pick (is_decimal last s) (Some (value_of 10 s)) None
 
-  pub decimal_empty : length s ≡ 0 → No ≡ decimal_told
+  pub decimal_empty : length s ≡ 0 → None ≡ decimal_told
   unfolding is_decimal no_leading_zero
   decimal_empty e = rw e
 
-  module _ (r : Num) (t : r ≡ answer 10 last 0 s) where
+  module _ (r : Option ℕ) (t : r ≡ answer 10 last 0 s) where
     pub decimal_one : length s ≡ 1 → r ≡ decimal_told
     unfolding is_decimal no_leading_zero
     decimal_one e = rw e t
@@ -116,7 +159,7 @@ module _ (last : ℕ) (s : List ℕ) where
     unfolding is_decimal no_leading_zero
     decimal_more e f g = rw (ne_eqb _ _ e, ne_eqb _ _ f, ne_eqb _ _ g) t
 
-  pub decimal_zero : (length s ≡ 0 → ⊥) → (length s ≡ 1 → ⊥) → get_or s 0 0 ≡ 48 → No ≡ decimal_told
+  pub decimal_zero : (length s ≡ 0 → ⊥) → (length s ≡ 1 → ⊥) → get_or s 0 0 ≡ 48 → None ≡ decimal_told
   unfolding is_decimal no_leading_zero
   decimal_zero e f g = rw (ne_eqb _ _ e, ne_eqb _ _ f, eq-eqb _ _ g)
 
@@ -142,14 +185,14 @@ hex_below k s e =
     rw same at less
 
 module _ (k : ℕ) (s : List ℕ) where
-  abbrev pub hex_told : Num
-  hex_told = pick (is_hex k s) (Got (value_of 16 s)) No
+  abbrev pub hex_told : Option ℕ
+  hex_told = pick (is_hex k s) (Some (value_of 16 s)) None
 
-  pub hex_short : (length s ≡ k → ⊥) → No ≡ hex_told
+  pub hex_short : (length s ≡ k → ⊥) → None ≡ hex_told
   unfolding is_hex
   hex_short e = rw (ne_eqb _ _ e)
 
-  pub hex_is : (last : ℕ) (r : Num) → r ≡ answer 16 last 0 s → length s ≡ k → last + 1 ≡ 16 ^ k → r ≡ hex_told
+  pub hex_is : (last : ℕ) (r : Option ℕ) → r ≡ answer 16 last 0 s → length s ≡ k → last + 1 ≡ 16 ^ k → r ≡ hex_told
   unfolding is_hex
   hex_is last r t e f = t ∙ go (all_digits 16 s) refl
     where
@@ -162,17 +205,19 @@ module _ (k : ℕ) (s : List ℕ) where
       go false a = unfold is_hex in rw (eq-eqb (length s) k e, a)
 
 -- ---- bytes in hexadecimal
-module _ (s : List ℕ) (i : ℕ) (inv : all_digits 16 s ≡ all_digits 16 (drop i s)) where
-  pub all_done : length s ≤ i → true ≡ all_digits 16 s
-  unfolding all_digits
-  all_done h = rw (inv, drop_of_length-le s h)
+abbrev pub is_digit : ℕ → Bool
+is_digit b = is_some (digit_told b)
 
-  module _ (d : ℕ) (h : i < length s) (e : d ≡ digit_of (get_or s i 0)) where
-    pub all_bad : 16 ≤ d → false ≡ all_digits 16 s
-    all_bad k = rw (inv, digits_at 16 s i h, ← e, le-ltb d 16 k)
-
-    pub all_turn : d < 16 → all_digits 16 s ≡ all_digits 16 (drop (i + 1) s)
-    all_turn k = rw (inv, digits_at 16 s i h, ← e, lt-ltb d 16 k)
+pub all_digits_is : (s : List ℕ) → list_all is_digit s ≡ all_digits 16 s
+unfolding all_digits
+all_digits_is s =
+    same_from_clauses (list_all is_digit) (all_digits 16) (λ b r. is_digit b && r) refl (λ b bs. refl)
+    (λ b bs. by (ltb (digit_of b) 16) (digit_of b) (all_digits 16 bs))
+    s
+  where
+    by : (t : Bool) (d : ℕ) (u : Bool) → both t u ≡ (is_some (pick t (Some d) None) && u)
+    by true d u = refl
+    by false d u = refl
 
 module _ (s : List ℕ) where
   pub bytes_few : length s < 2 → false ≡ is_bytes s
@@ -189,6 +234,6 @@ module _ (s : List ℕ) where
       unfolding is_bytes
       bytes_odd e = rw (le-leb 2 (length s) h, le-leb (length s) 64 k, ne_eqb _ _ e)
 
-      pub bytes_all : (r : Bool) → r ≡ all_digits 16 s → length s % 2 ≡ 0 → r ≡ is_bytes s
+      pub bytes_all : length s % 2 ≡ 0 → (r : Bool) → r ≡ list_all is_digit s → r ≡ is_bytes s
       unfolding is_bytes
-      bytes_all r t e = rw (le-leb 2 (length s) h, le-leb (length s) 64 k, eq-eqb _ _ e) t
+      bytes_all e r t = rw (le-leb 2 (length s) h, le-leb (length s) 64 k, eq-eqb _ _ e) (t ∙ all_digits_is s)

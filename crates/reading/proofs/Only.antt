@@ -4,12 +4,16 @@ use mathlib.Core.List.{List}
 use Prim.Native.Nat.{ℕ}
 use Rattle.reading.specs.Sheet.{Reading, bad, good}
 use Rattle.reading.specs.Answered.{as_reading}
-use Rattle.reading.specs.declared.Reading as Answer
-use Rattle.reading.specs.declared.Reading.TheVariants.{Bad, Good}
+use Rattle.reading.specs.declared.Start.{Start}
+use Rattle.reading.specs.declared.BadLine.{BadLine}
+use Rattle.std.proofs.Common.{Result, Ok, Err}
 
-abbrev answer_of : Reading → Answer.Reading
-answer_of (bad n mem map regs) = Bad n
-answer_of (good s) = Good (record { pc = s.pc; code = s.code; mask = s.mask; budget = s.budget })
+abbrev Answer : Type 0
+Answer = Result Start BadLine
+
+abbrev answer_of : Reading → Answer
+answer_of (bad n mem map regs) = Err (record { line = n })
+answer_of (good s) = Ok (record { pc = s.pc; code = s.code; mask = s.mask; budget = s.budget })
 
 abbrev mem_of : Reading → List ℕ
 mem_of (bad n mem map regs) = mem
@@ -24,23 +28,23 @@ regs_of (bad n mem map regs) = regs
 regs_of (good s) = s.regs
 
 module _ (mem map regs : List ℕ) where
-  answer_back : (r : Answer.Reading) → answer_of (as_reading r mem map regs) ≡ r
-  answer_back (Bad n) = refl
-  answer_back (Good s) = refl
+  answer_back : (r : Answer) → answer_of (as_reading r mem map regs) ≡ r
+  answer_back (Err e) = refl
+  answer_back (Ok s) = refl
 
-  mem_back : (r : Answer.Reading) → mem_of (as_reading r mem map regs) ≡ mem
-  mem_back (Bad n) = refl
-  mem_back (Good s) = refl
+  mem_back : (r : Answer) → mem_of (as_reading r mem map regs) ≡ mem
+  mem_back (Err e) = refl
+  mem_back (Ok s) = refl
 
-  map_back : (r : Answer.Reading) → map_of (as_reading r mem map regs) ≡ map
-  map_back (Bad n) = refl
-  map_back (Good s) = refl
+  map_back : (r : Answer) → map_of (as_reading r mem map regs) ≡ map
+  map_back (Err e) = refl
+  map_back (Ok s) = refl
 
-  regs_back : (r : Answer.Reading) → regs_of (as_reading r mem map regs) ≡ regs
-  regs_back (Bad n) = refl
-  regs_back (Good s) = refl
+  regs_back : (r : Answer) → regs_of (as_reading r mem map regs) ≡ regs
+  regs_back (Err e) = refl
+  regs_back (Ok s) = refl
 
-module _ (r r' : Answer.Reading) (mem mem' map map' regs regs' : List ℕ) (e : as_reading r mem map regs ≡ as_reading r' mem' map' regs') where
+module _ (r r' : Answer) (mem mem' map map' regs regs' : List ℕ) (e : as_reading r mem map regs ≡ as_reading r' mem' map' regs') where
   pub one_answer : (r ≡ r') × (mem ≡ mem') × (map ≡ map') × (regs ≡ regs')
   one_answer = (
     sym (answer_back mem map regs r) ∙ ap answer_of e ∙ answer_back mem' map' regs' r',

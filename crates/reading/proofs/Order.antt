@@ -24,21 +24,21 @@ record Kept (above : List Line) (s : State) : Type 0 where
   pages : length s.pages ≡ 512
   named : length s.named ≡ 16
   page : (n : ℕ) → n < 512
-      → each (above_page n) above ≡ both (eqb s.stage 0) (eqb (get_or s.pages n 0) 0)
+      → each (above_page n) above ≡ both (eqb s.stage 0) (not (get_or s.pages n false))
   bytes : each above_bytes above ≡ leb s.stage 1
   reg : (n : ℕ) → n < 16
-      → each (above_reg n) above ≡ both (leb s.stage 2) (eqb (get_or s.named n 0) 0)
+      → each (above_reg n) above ≡ both (leb s.stage 2) (not (get_or s.named n false))
   start : each above_start above ≡ leb s.stage 2
   run : nearest above_run above ≡ eqb s.stage 3
   done : may_end above ≡ eqb s.stage 4
 
 -- a flag after one is set
-flag_set : (f : List ℕ) (n m : ℕ) → n < length f → both (not (eqb n m)) (eqb (get_or f m 0) 0) ≡ eqb (get_or (set f n 1) m 0) 0
+flag_set : (f : List Bool) (n m : ℕ) → n < length f → both (not (eqb n m)) (not (get_or f m false)) ≡ not (get_or (set f n true) m false)
 flag_set f n m h = go (ℕ_discrete n m)
   where
-    go : Dec (n ≡ m) → both (not (eqb n m)) (eqb (get_or f m 0) 0) ≡ eqb (get_or (set f n 1) m 0) 0
-    go (yes e) = rw (← e, eq-eqb n n refl, get_or-set_same f n 1 0 h)
-    go (no d) = rw (ne_eqb n m d, get_or-set_other f n m 1 0 (λ e. d (sym e)))
+    go : Dec (n ≡ m) → both (not (eqb n m)) (not (get_or f m false)) ≡ not (get_or (set f n true) m false)
+    go (yes e) = rw (← e, eq-eqb n n refl, get_or-set_same f n true false h)
+    go (no d) = rw (ne_eqb n m d, get_or-set_other f n m true false (λ e. d (sym e)))
 
 module _ (above : List Line) (s : State) (k : Kept above s) where
   -- the code takes the lines that may stand
@@ -55,10 +55,10 @@ module _ (above : List Line) (s : State) (k : Kept above s) where
   kept_on : (l : Line) → InRange l → goes_on l s ≡ true → Kept (l ∷ above) (state_after l s)
   unfolding each nearest
   kept_on (page n w) h e =
-      let z : s.stage ≡ 0 = eqb-true s.stage 0 (both_true (eqb s.stage 0) (eqb (get_or s.pages n 0) 0) e).0 in
+      let z : s.stage ≡ 0 = eqb-true s.stage 0 (both_true (eqb s.stage 0) (not (get_or s.pages n false)) e).0 in
       let two : leb s.stage 2 ≡ true = le-leb s.stage 2 (omega arith) in
       record {
-        pages = length-set s.pages n 1 ∙ k.pages;
+        pages = length-set s.pages n true ∙ k.pages;
         named = k.named;
         page = λ m i. rw (k.page m i, eq-eqb s.stage 0 z) (flag_set s.pages n m (rw k.pages h));
         bytes = k.bytes ∙ le-leb s.stage 1 (omega arith);
@@ -81,10 +81,10 @@ module _ (above : List Line) (s : State) (k : Kept above s) where
         done = refl;
       }
   kept_on (reg n v) h e =
-      let two : leb s.stage 2 ≡ true = (both_true (leb s.stage 2) (eqb (get_or s.named n 0) 0) e).0 in
+      let two : leb s.stage 2 ≡ true = (both_true (leb s.stage 2) (not (get_or s.named n false)) e).0 in
       record {
         pages = k.pages;
-        named = length-set s.named n 1 ∙ k.named;
+        named = length-set s.named n true ∙ k.named;
         page = λ m i. refl;
         bytes = refl;
         reg = λ m i. rw (k.reg m i, two) (flag_set s.named n m (rw k.named h));
@@ -140,14 +140,14 @@ lines_tied (suc k) text above s h =
     (one_more_lem above s h l r _ (lines_from k (after 10 text)) (λ e. lines_tied k (after 10 text) (l ∷ above) (state_after l s) (kept_on above s h l r e)))
 
 pub lines_are : (text : List ℕ) (h : Setting)
-    → (read_lines (count 10 text) 1 text (record { stage = 0; pages = replicate 512 0; named = replicate 16 0; held = h })).reading
+    → (read_lines (count 10 text) 1 text (record { stage = 0; pages = replicate 512 false; named = replicate 16 false; held = h })).reading
     ≡ read_below [] h (lines_from (count 10 text) text)
 lines_are text h = lines_tied (count 10 text) text [] _ (record {
-  pages = length-replicate {A = ℕ} 512 0;
-  named = length-replicate {A = ℕ} 16 0;
-  page = λ n i. unfold each in rw (get_or-replicate {A = ℕ} 512 n 0 0 i);
+  pages = length-replicate {A = Bool} 512 false;
+  named = length-replicate {A = Bool} 16 false;
+  page = λ n i. unfold each in rw (get_or-replicate {A = Bool} 512 n false false i);
   bytes = unfold each in refl;
-  reg = λ n i. unfold each in rw (get_or-replicate {A = ℕ} 16 n 0 0 i);
+  reg = λ n i. unfold each in rw (get_or-replicate {A = Bool} 16 n false false i);
   start = unfold each in refl;
   run = unfold nearest in refl;
   done = unfold nearest in refl;

@@ -1,32 +1,46 @@
 -- A sheet read line by line, as the loop of `read_lines` reads it.
 use mathlib.Core.Path.{◌≡◌, refl, ap, ◌∙◌}
 use mathlib.Core.Bool.{Bool, true, false}
-use mathlib.Core.List.{List}
-use Prim.Native.Nat.{ℕ, ◌+◌, ◌-◌, ◌≤◌, ◌<◌}
+use mathlib.Core.List.{List, [], ◌∷◌}
+use Prim.Native.Nat.{ℕ, ◌+◌, ◌≤◌, ◌<◌}
 use native.Mathlib.Omega.{arith}
-use lib.ListN.{length, replicate, take, drop, drop_of_length-le, length-drop}
-use lib.Seq.{take_all, length-take-le, drop-drop}
+use lib.Dec.{eqb}
+use lib.ListN.{length, replicate, length-drop}
+use lib.Seq.{length-take-le}
 use borrow.Author.Tests.{le-ltb, lt-ltb, eq-eqb, ne_eqb}
+use Rattle.std.proofs.Common.{Option, Some, None, Result, Ok, Err}
 use Rattle.words.specs.Pick.{pick}
+use Rattle.reading.specs.Answered.{as_reading}
 use Rattle.reading.specs.Cut.{span, before, after, count}
 use Rattle.reading.specs.Line.{Line, line_of}
-use Rattle.reading.specs.Sheet.{Reading, bad, good, read_onto}
-use Rattle.reading.specs.Within.{State, state_of, goes_on, state_after, stays, goes, stayed, stepped, as_stepped, Left, left, left_bad, read_lines}
+use Rattle.reading.specs.Sheet.{bad, good, read_onto}
+use Rattle.reading.specs.Within.{State, SameLent, stage_number, state_of, goes_on, state_after, goes, stayed, stepped, as_stepped, Left, left, left_bad, as_left, read_lines}
+use Rattle.reading.specs.declared.BadLine.{BadLine}
+use Rattle.reading.specs.declared.Start.{Start}
 use Rattle.reading.specs.declared.sheet.Progress.{Progress}
-use Rattle.reading.specs.declared.sheet.Step.{Step}
-use Rattle.reading.specs.declared.sheet.Step.TheVariants.{Off, On}
+use Rattle.reading.specs.declared.sheet.Onto.{Onto}
 use Rattle.reading.proofs.Cuts.{span_within, count_none, count_some}
 use Rattle.reading.proofs.Order.{lines_are}
 
+pub same_on : (a b c : Onto) → SameLent a b → SameLent b c → SameLent a c
+same_on a b c s t =
+    record {
+      mem = t.mem ∙ s.mem;
+      map = t.map ∙ s.map;
+      regs = t.regs ∙ s.regs;
+      mem_len = t.mem_len ∙ s.mem_len;
+      map_len = t.map_len ∙ s.map_len;
+      regs_len = t.regs_len ∙ s.regs_len;
+    }
+
 -- ---- one line more
 module _ (n : ℕ) (s : State) (l : Line) (go : Left) where
-  off_is : (mem map regs pages named : List ℕ) → stays mem map regs pages named ≡ stepped s l
-      → left (bad n mem map regs) pages named ≡ pick (goes_on l s) go (left_bad n s)
-  off_is mem map regs pages named e = by (goes_on l s) e
+  off_is : (o : Onto) → as_stepped None o ≡ stepped s l → as_left (Err (record { line = n })) o ≡ pick (goes_on l s) go (left_bad n s)
+  off_is o e = by (goes_on l s) e
     where
-      by : (t : Bool) → stays mem map regs pages named ≡ pick t (goes (state_after l s)) (stayed s)
-          → left (bad n mem map regs) pages named ≡ pick t go (left_bad n s)
-      by true f = absurd (let z : ◌≡◌ {A = ℕ} 0 1 = cc in omega arith)
+      by : (t : Bool) → as_stepped None o ≡ pick t (goes (state_after l s)) (stayed s)
+          → as_left (Err (record { line = n })) o ≡ pick t go (left_bad n s)
+      by true f = cc
       by false f = cc
 
   on_is : (u : State) → goes u ≡ stepped s l → (goes_on l s ≡ true) × (state_after l s ≡ u)
@@ -34,73 +48,56 @@ module _ (n : ℕ) (s : State) (l : Line) (go : Left) where
     where
       by : (t : Bool) → goes u ≡ pick t (goes (state_after l s)) (stayed s) → (t ≡ true) × (state_after l s ≡ u)
       by true f = (refl, cc)
-      by false f = absurd (let z : ◌≡◌ {A = ℕ} 0 1 = cc in omega arith)
+      by false f = cc
 
-module _ (whole : Left) (s : List ℕ) (n at : ℕ) (p : Progress) (mem map regs pages named : List ℕ)
-    (inv : whole ≡ read_lines (count 10 (drop at s)) n (drop at s) (state_of p mem map regs pages named)) where
-  module _ (h : length s ≤ at) where
-    pub read_good : p.stage ≡ 4
-        → left (good (record { mem = mem; map = map; regs = regs; pc = p.pc; code = p.code; mask = p.mask; budget = p.budget })) pages named ≡ whole
-    unfolding read_lines count
-    read_good e = rw (inv, drop_of_length-le s h, eq-eqb _ _ e)
+-- no line is left
+at_end : (rest : List ℕ) (n : ℕ) (s : State) → length rest ≡ 0
+    → read_lines (count 10 rest) n rest s ≡ pick (eqb s.stage 4) (left (good s.held) s.pages s.named) (left_bad n s)
+unfolding read_lines count
+at_end [] n s h = refl
+at_end (b ∷ bs) n s h = absurd (omega arith)
 
-    pub read_missing : (p.stage ≡ 4 → ⊥) → left (bad n mem map regs) pages named ≡ whole
-    unfolding read_lines count
-    read_missing e = rw (inv, drop_of_length-le s h, ne_eqb _ _ e)
+module _ (whole : Left) (rest : List ℕ) (n : ℕ) (p : Progress) (o : Onto) (inv : whole ≡ read_lines (count 10 rest) n rest (state_of p o)) where
+  pub read_good : length rest ≡ 0 → stage_number p.stage ≡ 4 → as_left (Ok p.said) o ≡ whole
+  read_good h e = rw (inv, at_end rest n (state_of p o) h, eq-eqb _ _ e)
 
-  module _ (h : at < length s) (line : List ℕ) (cut : line ≡ before 10 (take (length s - at) (drop at s))) where
-    rest_is : take (length s - at) (drop at s) ≡ drop at s
-    rest_is = take_all (length s - at) (drop at s) (simp length-drop (omega arith))
+  pub read_missing : length rest ≡ 0 → (stage_number p.stage ≡ 4 → ⊥) → as_left (Err (record { line = n })) o ≡ whole
+  read_missing h e = rw (inv, at_end rest n (state_of p o) h, ne_eqb _ _ e)
 
-    cut_is : line ≡ before 10 (drop at s)
-    cut_is = cut ∙ ap (λ (t : List ℕ). before 10 t) rest_is
-
-    long : length line ≡ span 10 (drop at s)
+  module _ (text : List ℕ) (cut : text ≡ before 10 rest) where
+    long : length text ≡ span 10 rest
     unfolding before
-    long = rw cut_is (length-take-le (span 10 (drop at s)) (drop at s) (span_within 10 (drop at s)))
+    long = rw cut (length-take-le (span 10 rest) rest (span_within 10 rest))
 
-    rest_long : length (take (length s - at) (drop at s)) ≡ length (drop at s)
-    rest_long = ap length rest_is
-
-    some_left : 0 < length (drop at s)
-    some_left = simp length-drop (omega arith)
-
-    pub read_unended : length line ≡ length (take (length s - at) (drop at s)) → left (bad n mem map regs) pages named ≡ whole
+    pub read_unended : 0 < length rest → length text ≡ length rest → as_left (Err (record { line = n })) o ≡ whole
     unfolding read_lines
-    read_unended e =
-        let k : length (drop at s) ≤ span 10 (drop at s) = omega (arith, long, rest_long) in
-        let l : length (drop at s) ≡ 0 → ⊥ = λ z. omega (arith, some_left) in
-        rw (inv, count_none 10 (drop at s) k, ne_eqb (length (drop at s)) 0 l)
+    read_unended h e =
+        let k : length rest ≤ span 10 rest = omega (arith, long) in
+        let l : length rest ≡ 0 → ⊥ = λ z. omega arith in
+        rw (inv, count_none 10 rest k, ne_eqb (length rest) 0 l)
 
-    module _ (e : length line ≡ length (take (length s - at) (drop at s)) → ⊥) where
-      ended : span 10 (drop at s) < length (drop at s)
-      ended = omega (arith, long, rest_long, span_within 10 (drop at s), e)
+    module _ (e : length text ≡ length rest → ⊥) where
+      ended : span 10 rest < length rest
+      ended = omega (arith, long, span_within 10 rest, e)
 
-      pub read_within : at + length line + 1 ≤ length s
-      read_within = omega (arith, long, ended, length-drop at s)
-
-      abbrev line_read : Line
-      line_read = line_of line
-
-      abbrev state : State
-      state = state_of p mem map regs pages named
-
-      step_is : whole ≡ pick (goes_on line_read state) (read_lines (count 10 (after 10 (drop at s))) (n + 1) (after 10 (drop at s)) (state_after line_read state)) (left_bad n state)
+      step_is : whole ≡ pick (goes_on (line_of text) (state_of p o)) (read_lines (count 10 (after 10 rest)) (n + 1) (after 10 rest) (state_after (line_of text) (state_of p o))) (left_bad n (state_of p o))
       unfolding read_lines
-      step_is = rw (inv, count_some 10 (drop at s) ended, cut_is)
+      step_is = rw (inv, count_some 10 rest ended, cut)
 
-      module _ (r : Step) (mem' map' regs' pages' named' : List ℕ) (took : as_stepped r mem' map' regs' pages' named' ≡ stepped state line_read) where
-        pub read_off_lem : r ≡ Off → left (bad n mem' map' regs') pages' named' ≡ whole
-        read_off_lem f = rw step_is (off_is n state line_read _ mem' map' regs' pages' named' (rw f at took))
-
-        pub read_turn : (q : Progress) → r ≡ On q
-            → whole ≡ read_lines (count 10 (drop (at + length line + 1) s)) (n + 1) (drop (at + length line + 1) s) (state_of q mem' map' regs' pages' named')
+      module _ (rest' : List ℕ) (f : rest' ≡ after 10 rest) where
+        pub read_shorter : length rest' < length rest
         unfolding after
-        read_turn q f =
-            let k : at + (span 10 (drop at s) + 1) ≡ at + length line + 1 = omega (arith, long) in
-            let g : (goes_on line_read state ≡ true) × (state_after line_read state ≡ state_of q mem' map' regs' pages' named') =
-            on_is n state line_read whole _ (rw f at took) in
-            step_is ∙ rw (g.0, g.1, drop-drop (span 10 (drop at s) + 1) at s, k)
+        read_shorter = rw f (omega (arith, length-drop (span 10 rest + 1) rest, ended))
+
+        module _ (r : Option Progress) (o' : Onto) (took : as_stepped r o' ≡ stepped (state_of p o) (line_of text)) where
+          pub read_off_lem : r ≡ None → as_left (Err (record { line = n })) o' ≡ whole
+          read_off_lem g = rw step_is (off_is n (state_of p o) (line_of text) _ o' (rw g at took))
+
+          pub read_turn : (q : Progress) → r ≡ Some q → whole ≡ read_lines (count 10 rest') (n + 1) rest' (state_of q o')
+          read_turn q g =
+              let u : (goes_on (line_of text) (state_of p o) ≡ true) × (state_after (line_of text) (state_of p o) ≡ state_of q o') =
+              on_is n (state_of p o) (line_of text) whole _ (rw g at took) in
+              step_is ∙ rw (u.0, u.1, f)
 
 -- ---- a whole sheet
 module _ (mem map regs s : List ℕ) where
@@ -108,8 +105,21 @@ module _ (mem map regs s : List ℕ) where
   unfolding read_onto
   read_long h = rw (lt-ltb _ _ h)
 
-  pub read_all : length s ≤ 65536 → (x : Reading) (pages named : List ℕ)
-      → left x pages named ≡ read_lines (count 10 s) 1 s (state_of (record { stage = 0; pc = 0; code = 0; mask = 0; budget = 0 }) mem map regs (replicate 512 0) (replicate 16 0))
-      → x ≡ read_onto mem map regs s
+  -- before the first line, with nothing given
+  abbrev fresh : State
+  fresh =
+      record {
+        stage = 0;
+        pages = replicate 512 false;
+        named = replicate 16 false;
+        held = record { mem = mem; map = map; regs = regs; pc = 0; code = 0; mask = 0; budget = 0 };
+      }
+
+  fresh_reads : length s ≤ 65536 → (read_lines (count 10 s) 1 s fresh).reading ≡ read_onto mem map regs s
   unfolding read_onto
-  read_all h x pages named e = ap (λ (l : Left). l.reading) e ∙ lines_are s _ ∙ rw (le-ltb _ _ h)
+  fresh_reads h = lines_are s _ ∙ rw (le-ltb _ _ h)
+
+  pub read_all : length s ≤ 65536 → (r : Result Start BadLine) (o : Onto) → as_left r o ≡ read_lines (count 10 s) 1 s fresh
+      → (mem' map' regs' : List ℕ) → mem' ≡ o.mem.now → map' ≡ o.map.now → regs' ≡ o.regs.now
+      → as_reading r mem' map' regs' ≡ read_onto mem map regs s
+  read_all h r o f mem' map' regs' i j k = rw (i, j, k) (ap (λ (l : Left). l.reading) f ∙ fresh_reads h)

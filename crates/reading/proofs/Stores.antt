@@ -1,86 +1,57 @@
--- What is stored: bytes pair by pair, and the flag of a number that a line gives.
-use mathlib.Core.Path.{◌≡◌, sym, ◌∙◌}
-use mathlib.Core.Bool.{Bool, true, false}
+-- What is stored, byte by byte from the pairs of a text of digits.
+use mathlib.Core.Path.{◌≡◌, refl}
+use mathlib.Core.Bool.{true}
 use mathlib.Core.List.{List, [], ◌∷◌}
-use Prim.Native.Nat.{ℕ, suc, ◌+◌, ◌-◌, ◌*◌, ◌≤◌, ◌<◌}
+use Prim.Native.Nat.{ℕ, ◌+◌, ◌-◌, ◌*◌, ◌≤◌, ◌<◌}
 use native.Mathlib.Numerals.{add-one}
 use native.Mathlib.Omega.{arith}
-use native.Mathlib.Decide.{dec_lt}
-use lib.Dec.{eqb, ltb}
-use lib.ListN.{length, get_or, set, drop, drop_of_length-le, get_or-eq_default}
-use lib.Seq.{drop-cons, sets, set_out}
-use borrow.Author.Tests.{ltb-true, ne_eqb}
-use Rattle.words.specs.Pick.{pick}
+use lib.Dec.{ltb}
+use lib.ListN.{length, get_or, set, take, drop, length-drop}
+use lib.Seq.{sets, take_all}
+use borrow.Author.Tests.{ltb-true}
+use Rattle.words.specs.Pick.{both}
 use Rattle.reading.specs.Digits.{digit_of, all_digits, pairs_of}
-use Rattle.reading.proofs.Numbers.{digits_at}
 use Rattle.words.proofs.Tests.{both_true}
 
-module _ (s : List ℕ) (i : ℕ) (a : all_digits 16 (drop i s) ≡ true) (h : i < length s) where
-  halves : (ltb (digit_of (get_or s i 0)) 16 ≡ true) × (all_digits 16 (drop (i + 1) s) ≡ true)
-  halves = both_true (ltb (digit_of (get_or s i 0)) 16) (all_digits 16 (drop (i + 1) s)) (sym (digits_at 16 s i h) ∙ a)
+-- what stands behind the first two
+abbrev pub behind : List ℕ → List ℕ
+behind s = take (length s - 2) (drop 2 s)
 
-  pub hex_here : digit_of (get_or s i 0) < 16
-  hex_here = ltb-true (digit_of (get_or s i 0)) 16 halves.0
+behind_is : (s : List ℕ) → behind s ≡ drop 2 s
+behind_is s = take_all (length s - 2) (drop 2 s) (simp length-drop (omega arith))
 
-  pub hex_behind : all_digits 16 (drop (i + 1) s) ≡ true
-  hex_behind = halves.1
+pub behind_fits : (s : List ℕ) (at n : ℕ) → 2 ≤ length s → at + length s ≤ n → at + 1 + length (behind s) ≤ n
+behind_fits s at n h l = rw (behind_is s) (omega (arith, length-drop 2 s))
 
-module _ (s : List ℕ) (i : ℕ) (a : all_digits 16 (drop i s) ≡ true) (h : 1 < length s - i) where
-  pub hex_first : digit_of (get_or s i 0) < 16
-  hex_first = hex_here s i a (omega arith)
+two : (a b : ℕ) (bs : List ℕ) → all_digits 16 (a ∷ b ∷ bs) ≡ true → (digit_of a < 16) × (digit_of b < 16) × (all_digits 16 bs ≡ true)
+unfolding all_digits
+two a b bs e =
+    let f = both_true (ltb (digit_of a) 16) (both (ltb (digit_of b) 16) (all_digits 16 bs)) e in
+    let g = both_true (ltb (digit_of b) 16) (all_digits 16 bs) f.1 in
+    (ltb-true (digit_of a) 16 f.0, ltb-true (digit_of b) 16 g.0, g.1)
 
-  pub hex_second : digit_of (get_or s (i + 1) 0) < 16
-  hex_second = hex_here s (i + 1) (hex_behind s i a (omega arith)) (omega arith)
+pub two_hex : (s : List ℕ) → 2 ≤ length s → all_digits 16 s ≡ true
+    → (digit_of (get_or s 0 0) < 16) × (digit_of (get_or s 1 0) < 16) × (all_digits 16 (behind s) ≡ true)
+two_hex [] h e = absurd (omega arith)
+two_hex (a ∷ []) h e = absurd (omega arith)
+two_hex (a ∷ b ∷ bs) h e = rw (behind_is (a ∷ b ∷ bs)) (two a b bs e)
 
-  pub hex_rest : all_digits 16 (drop (i + 2) s) ≡ true
-  hex_rest =
-      let k : i + 1 + 1 ≡ i + 2 = omega arith in
-      rw k at (hex_behind s (i + 1) (hex_behind s i a (omega arith)) (omega arith))
-
-pairs_at : (s : List ℕ) (i : ℕ) → 1 < length s - i
-    → pairs_of (drop i s) ≡ (digit_of (get_or s i 0) * 16 + digit_of (get_or s (i + 1) 0)) ∷ pairs_of (drop (i + 2) s)
+pairs_two : (s : List ℕ) → 2 ≤ length s → pairs_of s ≡ (digit_of (get_or s 0 0) * 16 + digit_of (get_or s 1 0)) ∷ pairs_of (behind s)
 unfolding pairs_of
-pairs_at s i h =
-    let k : i < length s = omega arith in
-    let l : suc i < length s = omega arith in
-    let m : i + 1 ≡ suc i = add-one i in
-    let n : i + 2 ≡ suc (suc i) = omega arith in
-    rw (m, n, drop-cons s i 0 k, drop-cons s (suc i) 0 l)
+pairs_two [] h = absurd (omega arith)
+pairs_two (a ∷ []) h = absurd (omega arith)
+pairs_two (a ∷ b ∷ bs) h = rw (behind_is (a ∷ b ∷ bs))
 
-pairs_none : (s : List ℕ) (i : ℕ) → length s - i ≤ 1 → pairs_of (drop i s) ≡ []
+pairs_none : (s : List ℕ) → length s < 2 → pairs_of s ≡ []
 unfolding pairs_of
-pairs_none s i h = go (dec_lt i (length s))
-  where
-    go : Dec (i < length s) → pairs_of (drop i s) ≡ []
-    go (yes k) =
-        let l : length s ≤ suc i = omega arith in
-        unfold pairs_of in rw (drop-cons s i 0 k, drop_of_length-le s l)
-    go (no k) =
-        let l : length s ≤ i = omega arith in
-        unfold pairs_of in rw (drop_of_length-le s l)
+pairs_none [] h = refl
+pairs_none (a ∷ []) h = refl
+pairs_none (a ∷ b ∷ bs) h = absurd (omega arith)
 
-module _ (mem₀ mem s : List ℕ) (a at i : ℕ) (inv : sets mem₀ a (pairs_of s) ≡ sets mem at (pairs_of (drop i s))) where
-  pub store_turn : 1 < length s - i → (b : ℕ) → b ≡ digit_of (get_or s i 0) * 16 + digit_of (get_or s (i + 1) 0) → (mem' : List ℕ) → mem' ≡ set mem at b
-      → sets mem₀ a (pairs_of s) ≡ sets mem' (at + 1) (pairs_of (drop (i + 2) s))
-  store_turn h b e mem' f = rw (inv, pairs_at s i h, f, e, add-one at)
+module _ (all mem s : List ℕ) (at : ℕ) (inv : all ≡ sets mem at (pairs_of s)) where
+  pub store_turn : 2 ≤ length s → (b : ℕ) → b ≡ digit_of (get_or s 0 0) * 16 + digit_of (get_or s 1 0) → (mem' : List ℕ) → mem' ≡ set mem at b
+      → all ≡ sets mem' (at + 1) (pairs_of (behind s))
+  store_turn h b e mem' f = rw (inv, pairs_two s h, f, e, add-one at)
 
-  pub store_done : length s - i ≤ 1 → mem ≡ sets mem₀ a (pairs_of s)
-  store_done h = rw (inv, pairs_none s i h)
-
--- ---- a store past the end of a list
-pub kept : (g : List ℕ) (n v : ℕ) → length g ≤ n → g ≡ set g n v
-kept g n v h = sym (set_out g n v h)
-
--- ---- a number that a line gives
-abbrev Given : List ℕ → ℕ → Bool → List ℕ → Type 0
-Given g n r g' = (r ≡ eqb (get_or g n 0) 0) × (g' ≡ pick (eqb (get_or g n 0) 0) (set g n 1) g)
-
-module _ (g : List ℕ) (n : ℕ) where
-  pub give_again : (get_or g n 0 ≡ 0 → ⊥) → Given g n false g
-  give_again h = (rw (ne_eqb _ _ h), rw (ne_eqb _ _ h))
-
-  pub give_new : get_or g n 0 ≡ 0 → Given g n true (set g n 1)
-  give_new h = (rw h, rw h)
-
-  pub give_past : length g ≤ n → Given g n true g
-  give_past h = (rw (get_or-eq_default g 0 h), rw (get_or-eq_default g 0 h, set_out g n 1 h))
+  pub store_done : length s < 2 → mem ≡ all
+  store_done h = rw (inv, pairs_none s h)

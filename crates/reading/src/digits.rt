@@ -1,117 +1,69 @@
 // Numbers from the bytes of their digits.
-ghost use Rattle.std.specs.Prelude.{◌≡◌, ◌+◌, ◌*◌, ◌^◌, ◌≤◌, ◌<◌, leb};
+ghost use Rattle.std.specs.Prelude.{◌≡◌, ◌+◌, ◌*◌, ◌^◌, ◌≤◌, ◌<◌, leb, ltb};
 ghost use Rattle.words.specs.Pick.{pick, both};
-ghost use Rattle.reading.specs.Digits.{digit_of, value_of, all_digits, is_decimal, is_hex, is_bytes};
+ghost use Rattle.reading.specs.Digits.{digit_of, value_of, is_decimal, is_hex, is_bytes, all_digits};
 
-// A number, or that the text is none.
-#[derive(Clone, Copy)]
-pub enum Num {
-    Got(u32),
-    No,
+// What a digit counts, if the byte is one.
+pub fn digit(b: u8) -> Option<u32>
+    ensures { result ≡ pick (ltb (digit_of b) 16) (Some (digit_of b)) None }
+{
+    match b {
+        b'0'..=b'9' => Some(u32::from(b - b'0')),
+        b'A'..=b'F' => Some(u32::from(b - b'A') + 10),
+        _ => None,
+    }
 }
 
-// What a digit counts, and 16 for a byte that is none.
-pub fn digit(b: u8) -> u32
-    ensures { result ≡ digit_of b }
+// A number with one more digit behind it, if it is one of the base and the number stays within `last`.
+fn longer(n: u32, b: u8, base: u32, last: u32) -> Option<u32>
+    requires { base ≤ 16 }
+    ensures { result ≡ pick (both (ltb (digit_of b) base) (leb (n * base + digit_of b) last)) (Some (n * base + digit_of b)) None }
 {
-    if b < 48 {
-        return 16;
-    }
-    if b <= 57 {
-        return (b as u32) - 48;
-    }
-    if b < 65 {
-        return 16;
-    }
-    if b <= 70 {
-        return (b as u32) - 55;
-    }
-    16
-}
-
-// One more digit, with room for every base up to 16.
-fn longer(n: u32, base: u32, d: u32) -> u64
-    requires { (base ≤ 16) × (d < 16) }
-    ensures { result ≡ n * base + d }
-{
-    (n as u64) * (base as u64) + (d as u64)
+    let d = digit(b)?;
+    let m = n.checked_mul(base)?.checked_add(d)?;
+    if d < base && m <= last { Some(m) } else { None }
 }
 
 // A number of any length, up to `last`.
-fn number(s: &[u8], base: u32, last: u32) -> Num
+fn number(s: &[u8], base: u32, last: u32) -> Option<u32>
     requires { (0 < base) × (base ≤ 16) }
-    ensures { result ≡ pick (both (all_digits base s.now) (leb (value_of base s.now) last)) (Num.Got (value_of base s.now)) Num.No }
+    ensures { result ≡ pick (both (all_digits base s.now) (leb (value_of base s.now) last)) (Some (value_of base s.now)) None }
 {
-    let mut n: u32 = 0;
-    let mut i = 0;
-    while i < s.len() {
-        let d = digit(s[i]);
-        if d >= base {
-            return Num::No;
-        }
-        let m = longer(n, base, d);
-        if m > last as u64 {
-            return Num::No;
-        }
-        n = m as u32;
-        i += 1;
+    let mut n = 0;
+    for &b in s {
+        n = longer(n, b, base, last)?;
     }
-    Num::Got(n)
+    Some(n)
 }
 
 // A decimal number up to `last`.
-pub fn decimal(s: &[u8], last: u32) -> Num
-    ensures { result ≡ pick (is_decimal last s.now) (Num.Got (value_of 10 s.now)) Num.No }
+pub fn decimal(s: &[u8], last: u32) -> Option<u32>
+    ensures { result ≡ pick (is_decimal last s.now) (Some (value_of 10 s.now)) None }
 {
-    if s.len() == 0 {
-        return Num::No;
+    match s {
+        [] | [b'0', _, ..] => None,
+        _ => number(s, 10, last),
     }
-    if s.len() == 1 {
-        return number(s, 10, last);
-    }
-    if s[0] == 48 {
-        return Num::No;
-    }
-    number(s, 10, last)
 }
 
 // A hexadecimal number of k digits, the largest of which is `last`.
-pub fn hex(s: &[u8], k: usize, last: u32) -> Num
+pub fn hex(s: &[u8], k: usize, last: u32) -> Option<u32>
     requires { last + 1 ≡ 16 ^ k }
-    ensures { result ≡ pick (is_hex k s.now) (Num.Got (value_of 16 s.now)) Num.No }
+    ensures { result ≡ pick (is_hex k s.now) (Some (value_of 16 s.now)) None }
 {
-    if s.len() != k {
-        return Num::No;
+    if s.len() == k {
+        number(s, 16, last)
+    } else {
+        None
     }
-    number(s, 16, last)
-}
-
-fn all_hex(s: &[u8]) -> bool
-    ensures { result ≡ all_digits 16 s.now }
-{
-    let mut i = 0;
-    while i < s.len() {
-        let d = digit(s[i]);
-        if d >= 16 {
-            return false;
-        }
-        i += 1;
-    }
-    true
 }
 
 // Whether the text is 1 to 32 bytes in hexadecimal.
 pub fn hex_bytes(s: &[u8]) -> bool
     ensures { result ≡ is_bytes s.now }
 {
-    if s.len() < 2 {
-        return false;
+    match s.len() {
+        2..=64 if s.len() % 2 == 0 => s.iter().all(|&b| digit(b).is_some()),
+        _ => false,
     }
-    if s.len() > 64 {
-        return false;
-    }
-    if s.len() % 2 != 0 {
-        return false;
-    }
-    all_hex(s)
 }

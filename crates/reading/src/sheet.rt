@@ -1,133 +1,121 @@
 // What the lines of a sheet do, one after another.
-ghost use Rattle.std.specs.Prelude.{◌≡◌};
+ghost use Rattle.std.specs.Prelude.{◌≡◌, ◌≤◌, length};
+ghost use Rattle.reading.specs.Cut.{count};
 ghost use Rattle.reading.specs.Line.{line_of};
-ghost use Rattle.reading.specs.Within.{as_line, HexBehind, state_of, stepped, as_stepped};
+ghost use Rattle.reading.specs.Within.{as_line, HexBehind, SameLent, start_of, state_of, stepped, as_stepped, as_left, read_lines};
 
-use crate::cut::back;
+use crate::cut::{back, front};
 use crate::line::{Line, read_line};
-use crate::store::{give, put_bytes, put_reg, put_word};
+use crate::store::{give, put, put_bytes};
+use crate::{BadLine, Start};
 
-// How far a sheet has got, and what START and RUN said.
+// Which kind of line was the last: at first, and after a PAGE line, a sheet is at its pages.
+#[derive(Clone, Copy, PartialEq, Eq, PartialOrd, Ord)]
+pub enum Stage {
+    Pages,
+    Bytes,
+    Regs,
+    Started,
+    Complete,
+}
+
+// How far a sheet has got, and what START and RUN have said.
 #[derive(Clone, Copy)]
 pub struct Progress {
-    pub stage: u32,
-    pub pc: u32,
-    pub code: u32,
-    pub mask: u32,
-    pub budget: u32,
+    pub stage: Stage,
+    pub said: Start,
 }
 
-// A line that does not go here, or what it leads to.
-#[derive(Clone, Copy)]
-pub enum Step {
-    Off,
-    On(Progress),
+// What a sheet is read onto, which the caller lends, and whether a line gave each page and each register.
+#[derive(Drop)]
+pub struct Onto<'a> {
+    pub mem: &'a mut [u8],
+    pub map: &'a mut [u16],
+    pub regs: &'a mut [u32],
+    pub pages: [bool; 512],
+    pub named: [bool; 16],
 }
 
-// The same, at another stage.
-fn at_stage(p: Progress, stage: u32) -> Progress
-    ensures { result ≡ record { stage = stage; pc = p.pc; code = p.code; mask = p.mask; budget = p.budget } }
-{
-    Progress {
-        stage,
-        pc: p.pc,
-        code: p.code,
-        mask: p.mask,
-        budget: p.budget,
+impl Onto<'_> {
+    // What a line leads to, if it may stand here.
+    #[tactic(auto, unfolding(crate::specs::Sheet::set_by))]
+    fn take_line(&mut self, line: Line, p: Progress) -> Option<Progress>
+        requires { HexBehind (Some line) }
+        ensures same { SameLent self.old self.new }
+        ensures steps { as_stepped result self.new ≡ stepped (state_of p self.old) (as_line (Some line.entry)) }
+    {
+        match line {
+            Line::Page(n, w) if p.stage == Stage::Pages => {
+                give(&mut self.pages, n)?;
+                put(self.map, n as usize, w);
+                Some(p)
+            }
+            Line::Bytes(a, digits) if p.stage <= Stage::Bytes => {
+                put_bytes(self.mem, a, digits);
+                Some(Progress {
+                    stage: Stage::Bytes,
+                    ..p
+                })
+            }
+            Line::Reg(n, v) if p.stage <= Stage::Regs => {
+                give(&mut self.named, n)?;
+                put(self.regs, n as usize, v);
+                Some(Progress {
+                    stage: Stage::Regs,
+                    ..p
+                })
+            }
+            Line::Start(pc, code, mask) if p.stage <= Stage::Regs => Some(Progress {
+                stage: Stage::Started,
+                said: Start {
+                    pc,
+                    code,
+                    mask,
+                    ..p.said
+                },
+            }),
+            Line::Run(budget) if p.stage == Stage::Started => Some(Progress {
+                stage: Stage::Complete,
+                said: Start { budget, ..p.said },
+            }),
+            _ => None,
+        }
     }
-}
 
-// After a START line, and after a RUN line.
-fn started(p: Progress, pc: u32, code: u32, mask: u32) -> Progress
-    ensures { result ≡ record { stage = 3; pc = pc; code = code; mask = mask; budget = p.budget } }
-{
-    Progress {
-        stage: 3,
-        pc,
-        code,
-        mask,
-        budget: p.budget,
+    // What the line of a text leads to.
+    fn take_text(&mut self, text: &[u8], p: Progress) -> Option<Progress>
+        ensures same { SameLent self.old self.new }
+        ensures steps { as_stepped result self.new ≡ stepped (state_of p self.old) (line_of text.now) }
+    {
+        let line = read_line(text)?;
+        self.take_line(line, p)
     }
-}
 
-fn complete(p: Progress, budget: u32) -> Progress
-    ensures { result ≡ record { stage = 4; pc = p.pc; code = p.code; mask = p.mask; budget = budget } }
-{
-    Progress {
-        stage: 4,
-        pc: p.pc,
-        code: p.code,
-        mask: p.mask,
-        budget,
+    // The lines of a sheet, each with its line end.
+    pub fn read_lines(&mut self, sheet: &[u8]) -> Result<Start, BadLine>
+        requires { length sheet.now ≤ 65536 }
+        ensures same { SameLent self.old self.new }
+        ensures reads { as_left result self.new ≡ read_lines (count 10 sheet.now) 1 sheet.now (state_of start_of self.old) }
+    {
+        let mut p = Progress {
+            stage: Stage::Pages,
+            said: Start::default(),
+        };
+        let mut line = 1;
+        let mut rest = sheet;
+        while !rest.is_empty() {
+            let text = front(rest, b'\n');
+            if text.len() == rest.len() {
+                return Err(BadLine { line });
+            }
+            p = self.take_text(text, p).ok_or(BadLine { line })?;
+            rest = back(rest, b'\n');
+            line += 1;
+        }
+        if p.stage == Stage::Complete {
+            Ok(p.said)
+        } else {
+            Err(BadLine { line })
+        }
     }
-}
-
-// What a line does, with the text behind its second tab.
-fn take_line(
-    line: Line,
-    text: &[u8],
-    p: Progress,
-    mem: &mut [u8],
-    map: &mut [u16],
-    regs: &mut [u32],
-    pages: &mut [u8],
-    named: &mut [u8],
-) -> Step
-    requires { HexBehind line text.now }
-    ensures { as_stepped result mem.new map.new regs.new pages.new named.new ≡ stepped (state_of p mem.old map.old regs.old pages.old named.old) (as_line line text.now) }
-{
-    let stage = p.stage;
-    match line {
-        Line::Page(n, w) => {
-            if stage == 0 {
-                if give(pages, n) {
-                    put_word(map, n, w);
-                    return Step::On(at_stage(p, 0));
-                }
-            }
-        }
-        Line::Bytes(a) => {
-            if stage <= 1 {
-                put_bytes(mem, a, text);
-                return Step::On(at_stage(p, 1));
-            }
-        }
-        Line::Reg(n, v) => {
-            if stage <= 2 {
-                if give(named, n) {
-                    put_reg(regs, n, v);
-                    return Step::On(at_stage(p, 2));
-                }
-            }
-        }
-        Line::Start(pc, code, mask) => {
-            if stage <= 2 {
-                return Step::On(started(p, pc, code, mask));
-            }
-        }
-        Line::Run(budget) => {
-            if stage == 3 {
-                return Step::On(complete(p, budget));
-            }
-        }
-        Line::Wrong => {}
-    }
-    Step::Off
-}
-
-// What the line of a text does.
-pub fn take_text(
-    text: &[u8],
-    p: Progress,
-    mem: &mut [u8],
-    map: &mut [u16],
-    regs: &mut [u32],
-    pages: &mut [u8],
-    named: &mut [u8],
-) -> Step
-    ensures { as_stepped result mem.new map.new regs.new pages.new named.new ≡ stepped (state_of p mem.old map.old regs.old pages.old named.old) (line_of text.now) }
-{
-    let line = read_line(text);
-    let rest = back(text, 9);
-    take_line(line, back(rest, 9), p, mem, map, regs, pages, named)
 }

@@ -6,7 +6,7 @@ ghost use Rattle.printing.specs.Answer.{text_of};
 ghost use Rattle.sheet.specs.Sheet.{answer_of};
 
 use printing::Text;
-use reading::Reading;
+use reading::BadLine;
 
 // The answer's bytes for any sheet's bytes.
 pub fn answer(sheet: &[u8]) -> Text
@@ -17,8 +17,8 @@ pub fn answer(sheet: &[u8]) -> Text
     let mut regs = [0u32; 16];
     let read = reading::read_sheet(sheet, &mut mem, &mut map, &mut regs);
     match read {
-        Reading::Bad(line) => printing::bad(line),
-        Reading::Good(start) => {
+        Err(BadLine { line }) => printing::bad(line),
+        Ok(start) => {
             let before = map;
             let reply = engine::run(
                 &mut mem,

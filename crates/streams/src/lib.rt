@@ -2,142 +2,111 @@
 // where something went wrong. The programs always end with status 0, so that line is how their caller knows.
 #![tactic(auto)]
 
-ghost use Rattle.std.specs.Prelude.{◌≤◌, length};
+ghost use Rattle.std.specs.Prelude.{◌≡◌, ◌≤◌, length, IfOk, IfSome};
 
 use std::io::Read;
 
-// How reading an entry and writing its answer went.
-#[derive(Clone, Copy)]
-pub enum Course {
-    Fine,
-    End, // the input ended before the entry
+// What went wrong with reading an entry or writing its answer.
+#[derive(Clone, Copy, Debug, PartialEq, Eq)]
+pub enum Trouble {
     Cut, // the input ended within the entry
     Malformed, // the entry is not of the form
     Unread, // a read failed
     Unwritten, // a write failed
 }
 
-// How many bytes were read, and whether a read that failed ended it.
-#[derive(Clone, Copy)]
-pub struct Taken {
-    pub count: usize,
-    pub is_failed: bool,
-}
-
-pub fn is_fine(course: Course) -> bool {
-    match course {
-        Course::Fine => true,
-        _ => false,
-    }
-}
-
-// One read. No byte comes at the input's end, nor where the read fails.
-fn take_some(rt: &HostRuntime, room: &mut [u8]) -> Taken
-    ensures { result.count ≤ length room.old }
+// One read. No byte comes at the input's end.
+fn read_some(rt: &HostRuntime, room: &mut [u8]) -> Result<usize, Trouble>
+    ensures { IfOk result (λ n. n ≤ length room.new) }
 {
-    let mut input = rt.stdin();
-    match input.read(room) {
-        Ok(count) => Taken {
-            count: count,
-            is_failed: false,
-        },
-        Err(_) => Taken {
-            count: 0,
-            is_failed: true,
-        },
-    }
+    rt.stdin().read(room).map_err(|_| Trouble::Unread)
 }
 
-// Reads until the room is full, the input ends or a read fails.
-pub fn take(rt: &HostRuntime, room: &mut [u8]) -> Taken
-    ensures { result.count ≤ length room.new }
+// Reads until the room is full or the input ends; how many bytes that were.
+fn read(rt: &HostRuntime, room: &mut [u8]) -> Result<usize, Trouble>
+    ensures { IfOk result (λ n. n ≤ length room.new) }
 {
-    let mut done: usize = 0;
+    let mut done = 0;
+    // No `for`: what a read takes says where the next begins.
     while done < room.len() {
-        let some = take_some(rt, &mut room[done..]);
-        if some.count == 0 {
-            return Taken {
-                count: done,
-                is_failed: some.is_failed,
-            };
+        let n = read_some(rt, &mut room[done..])?;
+        if n == 0 {
+            break;
         }
-        done += some.count;
+        done += n;
     }
-    Taken {
-        count: done,
-        is_failed: false,
-    }
+    Ok(done)
 }
 
-// Fills the room with an entry's first bytes.
-pub fn fill(rt: &HostRuntime, room: &mut [u8]) -> Course {
-    let taken = take(rt, room);
-    if taken.is_failed {
-        return Course::Unread;
+// The input's next bytes: as many as there is room for, fewer where the input ends before.
+pub fn take<'a>(rt: &HostRuntime, room: &'a mut [u8]) -> Result<&'a [u8], Trouble>
+    ensures { IfOk result (λ bytes. length bytes.now ≤ length room.old) }
+{
+    let n = read(rt, room)?;
+    Ok(&room[..n])
+}
+
+// An entry's first bytes; none where the input ends before them.
+pub fn first_bytes<const N: usize>(rt: &HostRuntime) -> Result<Option<[u8; N]>, Trouble>
+    ensures { IfOk result (λ found. IfSome found (λ bytes. length bytes ≡ N)) }
+{
+    let mut bytes = [0; N];
+    let n = read(rt, &mut bytes)?;
+    if n == N {
+        return Ok(Some(bytes));
     }
-    if taken.count == room.len() {
-        return Course::Fine;
-    }
-    if taken.count == 0 {
-        return Course::End;
-    }
-    Course::Cut
+    if n == 0 { Ok(None) } else { Err(Trouble::Cut) }
+}
+
+// An entry's further bytes.
+pub fn next_bytes<const N: usize>(rt: &HostRuntime) -> Result<[u8; N], Trouble>
+    ensures { IfOk result (λ bytes. length bytes ≡ N) }
+{
+    let mut bytes = [0; N];
+    fill_within(rt, &mut bytes)?;
+    Ok(bytes)
 }
 
 // Fills the room with an entry's further bytes.
-pub fn fill_within(rt: &HostRuntime, room: &mut [u8]) -> Course {
-    let course = fill(rt, room);
-    match course {
-        Course::End => Course::Cut,
-        _ => course,
+pub fn fill_within(rt: &HostRuntime, room: &mut [u8]) -> Result<(), Trouble> {
+    if read(rt, room)? == room.len() {
+        Ok(())
+    } else {
+        Err(Trouble::Cut)
     }
 }
 
-// Writes the first n bytes.
-pub fn write(rt: &HostRuntime, bytes: &[u8], n: usize) -> Course {
-    if n <= bytes.len() {
-        if rt.write_all(&bytes[0..n]).is_ok() {
-            return Course::Fine;
-        }
-    }
-    Course::Unwritten
+pub fn write(rt: &HostRuntime, bytes: &[u8]) -> Result<(), Trouble> {
+    rt.write_all(bytes).map_err(|_| Trouble::Unwritten)
 }
 
-// What standard error does not take is lost.
-fn say(rt: &HostRuntime, text: &[u8]) {
-    let _ = rt.stderr().write_all(text);
+// One line on standard error: what went wrong, and with which of the entries, counted from 1. What standard error does not take is lost.
+pub fn tell(rt: &HostRuntime, program: &str, entry: &str, n: u64, trouble: Trouble) {
+    let _ = match trouble {
+        Trouble::Cut => eprintln!(rt; "{program}: the input ends within {entry} {n}"),
+        Trouble::Malformed => eprintln!(rt;
+            "{program}: the input is not of the form at {entry} {n}"
+        ),
+        Trouble::Unread => eprintln!(rt; "{program}: standard input cannot be read"),
+        Trouble::Unwritten => eprintln!(rt; "{program}: the answer could not be written"),
+    };
 }
 
-// The entry that it was, counted from 1, and the line's end.
-fn say_where(rt: &HostRuntime, entry: &[u8], n: u64) {
-    say(rt, entry);
-    say(rt, b" ");
-    let _ = rt.eprint(n);
-    say(rt, b"\n");
-}
-
-// One line on standard error, if something went wrong.
-pub fn tell(rt: &HostRuntime, program: &[u8], entry: &[u8], n: u64, course: Course) {
-    match course {
-        Course::Fine => {}
-        Course::End => {}
-        Course::Cut => {
-            say(rt, program);
-            say(rt, b": the input ends within ");
-            say_where(rt, entry, n);
-        }
-        Course::Malformed => {
-            say(rt, program);
-            say(rt, b": the input is not of the form at ");
-            say_where(rt, entry, n);
-        }
-        Course::Unread => {
-            say(rt, program);
-            say(rt, b": standard input cannot be read\n");
-        }
-        Course::Unwritten => {
-            say(rt, program);
-            say(rt, b": the answer could not be written\n");
+// Entry after entry, each by a call of `answer`, which says whether there was one. The first trouble ends this, and is told.
+pub fn each<F: Fn(&HostRuntime) -> Result<bool, Trouble>>(
+    rt: &HostRuntime,
+    program: &str,
+    entry: &str,
+    answer: F,
+)
+    requires { F.IsAlwaysCallable answer }
+{
+    // Nothing says that the input ends, so the entries are counted up to a number that no run reaches.
+    for n in 1..u64::MAX {
+        match answer(rt) {
+            Ok(true) => {}
+            Ok(false) => return,
+            Err(trouble) => return tell(rt, program, entry, n, trouble),
         }
     }
 }

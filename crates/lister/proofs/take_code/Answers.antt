@@ -5,6 +5,3 @@ use Rattle.lister.proofs.take_code.Goals as goal
 
 pub slice_bounds-take-end : goal.slice_bounds-take-end
 slice_bounds-take-end c = sym (length-replicate {0} {A = ℕ} 2097153 0)
-
-pub slice_bounds-list_code-end : goal.slice_bounds-list_code-end
-slice_bounds-list_code-end c = c.take-taken.ensures

@@ -7,7 +7,12 @@ use Rattle.listing.proofs.list_from.Given as goal
 
 abbrev pub invariant-loop-next : goal.invariant-loop-next
 invariant-loop-next l =
-    (listed_from l.code l.at l.start l.initial.out ≡ on_from l.code l.start l.lines l.next l.written l.out) × (l.lines ≤ l.next) × (l.written ≤ length l.out) × (length l.out ≡ length l.initial.out)
+    record {
+      whole : listed_from l.code l.at l.start l.fn.out ≡ on_from l.code l.start l.lines l.next l.w.at l.w.buf.now;
+      same_buffer : l.w.buf.ghost_name ≡ l.initial.w.buf.ghost_name;
+      fewer : l.lines ≤ l.next;
+      within : l.w.at ≤ length l.w.buf.now;
+    }
 
 abbrev pub decreases-loop-next : goal.decreases-loop-next
 decreases-loop-next l = length l.code - l.next

@@ -7,7 +7,7 @@ pub returns-then-page-ge512 : goal.returns-then-page-ge512
 returns-then-page-ge512 c = search no_page
 
 pub list_found-requires : goal.list_found-requires
-list_found-requires c = (c.if-page-ge512.false, reach_inside _ _ _ _ _ _ (sym c.look_up-found.ensures ∙ c.in-At.is))
+list_found-requires c = (c.if-page-ge512.false, reach_inside _ _ _ _ _ _ (sym c.look_up.ensures ∙ c.in-At.is))
 
 pub returns-in-At : goal.returns-in-At
 returns-in-At c = search first_found

@@ -1,4 +1,3 @@
-use mathlib.Core.Path.{refl}
 use Rattle.printing.proofs.Joined.{answer_joined}
 use Rattle.printing.proofs.Lengths.{answer_long}
 use Rattle.printing.proofs.Filled.{filled}
@@ -6,10 +5,7 @@ use Rattle.printing.proofs.answer.Goals as goal
 
 pub returns : goal.returns
 returns c =
-    filled _ _ _ _ refl
-    (answer_joined _ _ _ _ _ _ _ _ _ _ _ _ _ _
-    c.stop_line-first.ensures
-    c.put_regs-second.ensures
-    c.start_line-third.ensures
-    c.put_pages-len.ensures)
-    (answer_long _ _ _ _ _ _ _ _ _ c.requires.0 c.requires.1)
+    let all = answer_joined _ _ _ _ _ _ _ _ _ _ _ _ _ _ c.stop_line.ensures c.put_regs.ensures c.start_line.ensures c.put_pages.ensures in
+    let long = answer_long c.args.number c.args.place c.args.count c.args.pc c.args.code c.args.mask c.args.regs.now c.args.before.now
+    c.args.after.now c.requires.0 c.requires.1 in
+    search filled

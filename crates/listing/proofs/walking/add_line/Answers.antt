@@ -1,16 +1,23 @@
-use Rattle.listing.proofs.Added.{line_short, added_none, added_some}
-use borrow.Author.Rules.{rules}
+use Rattle.lines.proofs.Proper.{Bytes}
+use Rattle.listing.proofs.Added.{no_room, some_room, added_none, added_some}
 use Rattle.listing.proofs.walking.add_line.Goals as goal
 
-pub returns-then-out-at : goal.returns-then-out-at
-returns-then-out-at c =
-    added_none _ _ _ _ (λ i. (c.type_inv.bytes i).fits) c.requires.1 c.put_line-len.ensures _ _ c.requires.0 (search rules)
+pub returns-then-w-text-clause-written : goal.returns-then-w-text-clause-written
+returns-then-w-text-clause-written c =
+    let small : Bytes c.args.bytes.now = λ i. (c.type_inv.bytes i).fits in
+    search added_none
 
-pub slice_bounds-put_all-end : goal.slice_bounds-put_all-end
-slice_bounds-put_all-end c =
-    let short = line_short _ _ _ _ (λ i. (c.type_inv.bytes i).fits) c.requires.1 c.put_line-len.ensures in
-    search rules
+pub returns-then-w-text-clause-told : goal.returns-then-w-text-clause-told
+returns-then-w-text-clause-told c =
+    let small : Bytes c.args.bytes.now = λ i. (c.type_inv.bytes i).fits in
+    search no_room
 
-pub returns : goal.returns
-returns c =
-    added_some _ _ _ _ (λ i. (c.type_inv.bytes i).fits) c.requires.1 c.put_line-len.ensures _ _ c.requires.0 _ (search rules) c.put_all.ensures
+pub returns-clause-written : goal.returns-clause-written
+returns-clause-written c =
+    let small : Bytes c.args.bytes.now = λ i. (c.type_inv.bytes i).fits in
+    search added_some
+
+pub returns-clause-told : goal.returns-clause-told
+returns-clause-told c =
+    let small : Bytes c.args.bytes.now = λ i. (c.type_inv.bytes i).fits in
+    search some_room

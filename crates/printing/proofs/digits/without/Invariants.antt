@@ -2,9 +2,5 @@ use mathlib.Core.Path.{◌≡◌}
 use Prim.Native.Nat.{◌/◌, ◌^◌}
 use Rattle.printing.proofs.digits.without.Given as goal
 
-abbrev pub invariant-loop-left : goal.invariant-loop-left
-invariant-loop-left l =
-    l.v / l.base ^ l.k ≡ l.rest / l.base ^ l.left
-
-abbrev pub decreases-loop-left : goal.decreases-loop-left
-decreases-loop-left l = l.left
+abbrev pub invariant-loop : goal.invariant-loop
+invariant-loop l = l.rest ≡ l.v / l.base ^ l.counter

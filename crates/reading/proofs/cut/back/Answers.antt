@@ -1,8 +1,6 @@
-use Rattle.reading.proofs.Cuts.{back_is, back_none}
+use Rattle.std.proofs.Common.{arith}
+use Rattle.reading.proofs.Cuts.{back_some, back_none}
 use Rattle.reading.proofs.cut.back.Goals as goal
 
-pub returns-then-e-s : goal.returns-then-e-s
-returns-then-e-s c = search back_is
-
 pub returns : goal.returns
-returns c = search back_none
+returns c = grind (arith, back_some c.args.mark c.args.s.now c.find.result c.find.ensures.0, back_none c.args.mark c.args.s.now c.find.result c.find.ensures.0)

@@ -1,19 +1,18 @@
-use borrow.Author.Rules.{rules}
-use Rattle.reading.proofs.Numbers.{number_bad, number_large, number_turn, number_done}
+use mathlib.Core.Path.{◌≡◌}
+use Prim.Native.Nat.{◌<◌}
+use lib.ListN.{length}
+use Rattle.std.proofs.Common.{rules, arith, Some}
+use Rattle.reading.proofs.Numbers.{number_none, number_turn, number_within, number_done}
 use Rattle.reading.proofs.digits.number.Goals as goal
 
-pub returns-then-d-base : goal.returns-then-d-base
-returns-then-d-base c = search number_bad
+pub returns-in_err-n : goal.returns-in_err-n
+returns-in_err-n c = search (rules, number_none)
 
-pub returns-then-m-last : goal.returns-then-m-last
-returns-then-m-last c = search number_large
-
-pub loop-i-preserved : goal.loop-i-preserved
-loop-i-preserved c = (
-  number_turn _ _ _ _ _ c.loop-i.invariant.0 _ c.loop-i-test.true c.digit-d.ensures _ c.if-d-base.false c.longer-m.ensures,
-  search rules,
-  search rules,
-)
+pub loop-b-preserved : goal.loop-b-preserved
+loop-b-preserved c =
+    let h : c.loop-b.b-index < length c.args.s.now = omega arith in
+    let k : c.longer.result ≡ Some c.in_ok-n.n = search rules in
+    (number_turn _ _ _ _ _ c.loop-b.invariant.0 h _ c.longer.ensures _ k, number_within _ _ _ _ _ c.loop-b.invariant.0 h _ c.longer.ensures _ k)
 
 pub returns : goal.returns
-returns c = search number_done
+returns c = search (rules, number_done)

@@ -16,5 +16,5 @@ returns-then-equal-4 c = search line_start
 pub returns-then-equal-5 : goal.returns-then-equal-5
 returns-then-equal-5 c = search line_run
 
-pub returns : goal.returns
-returns c = record { line = search line_none; hex = tt }
+pub returns-else-equal-5 : goal.returns-else-equal-5
+returns-else-equal-5 c = record { line = search line_none; hex = tt }

@@ -1,8 +1,9 @@
-use Rattle.reading.proofs.LineFields.{run_no, run_is}
+use Rattle.std.proofs.Common.{rules}
+use Rattle.reading.proofs.LineFields.{none_says, run_no, run_is}
 use Rattle.reading.proofs.line.run_line.Goals as goal
 
-pub returns-in_default : goal.returns-in_default
-returns-in_default c = record { line = search run_no; hex = tt }
+pub returns-in_err-budget : goal.returns-in_err-budget
+returns-in_err-budget c = none_says _ _ c.from_residual.ensures (search (rules, run_no))
 
 pub returns : goal.returns
-returns c = record { line = search run_is; hex = tt }
+returns c = record { line = search (rules, run_is); hex = tt }

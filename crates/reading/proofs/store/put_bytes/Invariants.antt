@@ -1,13 +1,17 @@
-use Prim.Native.Nat.{◌+◌, ◌-◌, ◌≤◌}
+use Prim.Native.Nat.{◌+◌, ◌≤◌}
 use mathlib.Core.Path.{◌≡◌}
 use mathlib.Core.Bool.{true}
-use lib.ListN.{length, drop}
+use lib.ListN.{length}
 use lib.Seq.{sets}
 use Rattle.reading.specs.Digits.{all_digits, pairs_of}
 use Rattle.reading.proofs.store.put_bytes.Given as goal
 
-abbrev pub invariant-loop-i : goal.invariant-loop-i
-invariant-loop-i l = (sets l.initial.mem l.a (pairs_of l.s) ≡ sets l.mem l.at (pairs_of (drop l.i l.s))) × (all_digits 16 (drop l.i l.s) ≡ true) × (l.i ≤ length l.s) × (l.at ≤ l.a + l.i) × (length l.mem ≡ length l.initial.mem)
+abbrev pub invariant-loop-rest : goal.invariant-loop-rest
+invariant-loop-rest l =
+    (sets l.initial.mem l.a (pairs_of l.digits) ≡ sets l.mem l.at (pairs_of l.rest))
+    × (all_digits 16 l.rest ≡ true)
+    × (l.at + length l.rest ≤ l.a + length l.digits)
+    × (length l.mem ≡ length l.initial.mem)
 
-abbrev pub decreases-loop-i : goal.decreases-loop-i
-decreases-loop-i l = length l.s - l.i
+abbrev pub decreases-loop-rest : goal.decreases-loop-rest
+decreases-loop-rest l = length l.rest

@@ -1,5 +1,0 @@
-use Rattle.printing.proofs.Joined.{field_of}
-use Rattle.printing.proofs.digits.put_hex.Goals as goal
-
-pub returns : goal.returns
-returns c = search field_of

@@ -1,5 +1,0 @@
-use Rattle.printing.proofs.Joined.{bad_joined}
-use Rattle.printing.proofs.lines.bad_line.Goals as goal
-
-pub returns : goal.returns
-returns c = search bad_joined

@@ -1,5 +1,0 @@
-use Rattle.printing.proofs.Joined.{last_joined}
-use Rattle.printing.proofs.lines.last_decimal.Goals as goal
-
-pub returns : goal.returns
-returns c = search last_joined

@@ -1,5 +1,0 @@
-use Rattle.printing.proofs.WrittenText.{after}
-use Rattle.printing.proofs.lines.named.Goals as goal
-
-pub returns : goal.returns
-returns c = search after

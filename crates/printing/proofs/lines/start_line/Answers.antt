@@ -1,7 +1,0 @@
-use Rattle.printing.specs.Writing.{wrote}
-use Rattle.printing.proofs.Joined.{start_joined}
-use Rattle.printing.proofs.lines.start_line.Goals as goal
-
-pub returns : goal.returns
-unfolding wrote
-returns c = search start_joined

@@ -1,9 +1,0 @@
--- The measure is how many page words are left.
-use Rattle.std.proofs.Common.{◌≡◌, ◌-◌, length}
-use Rattle.probe.proofs.told.put_map.Given as goal
-
-abbrev pub invariant-loop-i : goal.invariant-loop-i
-invariant-loop-i l = length l.out ≡ length l.initial.out
-
-abbrev pub decreases-loop-i : goal.decreases-loop-i
-decreases-loop-i l = length l.map - l.i
