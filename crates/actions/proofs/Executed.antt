@@ -5,11 +5,9 @@ use mathlib.Core.Path.{◌≡◌, sym, ◌∙◌, ap}
 use mathlib.Core.List.{List, [], ◌∷◌}
 use lib.ListN.{length, get_or, set}
 use Rattle.pages.specs.declared.Access.{Access}
-use Rattle.pages.specs.declared.Cause.{Cause}
-use Rattle.pages.specs.declared.Look.{Look}
-use Rattle.pages.specs.declared.Look.TheVariants.{At, Refused}
+use Rattle.pages.specs.declared.Refusal.{Refusal}
 use Rattle.pages.specs.Tests.{number_of}
-use Rattle.pages.specs.Look.{look_of}
+use Rattle.pages.specs.Look.{Look, At, look_of}
 use Rattle.pages.specs.Framed.{Framed, framed_of, accessed_at}
 use Rattle.machine.specs.Prog.{Prog, done, fail, look, Answer, finished, refused, interp}
 use Rattle.machine.specs.Run.{one}
@@ -30,14 +28,16 @@ use Rattle.fields.specs.declared.Field.{Field}
 use Rattle.fields.specs.Direct.{look_fields, look_one, note_field, read_field, write_field, move_field, compare_field, flat}
 use Rattle.fields.proofs.Bridge.{gets_is, puts_is, moves_is, compares_is}
 use Rattle.actions.specs.declared.Now.{Now}
-use Rattle.actions.specs.declared.Out.{Out}
-use Rattle.actions.specs.declared.Out.TheVariants.{Done, Stop}
-use Rattle.actions.specs.Answered.{cpu_of, told, AnswersTo, refusal_of}
+use Rattle.std.specs.Prelude.{Ok, Err}
+use Rattle.actions.specs.declared.Stop.{Stop}
+use Rattle.actions.specs.declared.Stop.TheVariants.{Boundary}
+use Rattle.actions.specs.Answered.{Out, number, place, cpu_of, told, AnswersTo, refusal_of}
+use Rattle.actions.proofs.Stops.{handed_on}
 use Rattle.actions.proofs.Looks.{one_stop, one_go, byte_stop, byte_go, two_is, off_boundary, on_boundary}
 
 -- a program that does no more than set the state
 pub no_storage : (regs regs' : List ℕ) (c n : Now) (p : Prog Cpu) (s : Framed) → done (cpu_of regs' n) ≡ p
-    → told (Done n) regs' c s ≡ one (cpu_of regs c) (interp framed p s s)
+    → told (Ok n) regs' c s ≡ one (cpu_of regs c) (interp framed p s s)
 unfolding told interp
 no_storage regs regs' c n p s e = ap (λ (q : Prog Cpu). one (cpu_of regs c) (interp framed q s s)) e
 
@@ -45,45 +45,45 @@ no_storage regs regs' c n p s e = ap (λ (q : Prog Cpu). one (cpu_of regs c) (in
 pub answered : (regs regs' : List ℕ) (c : Now) (o : Out) (p : Prog Cpu) (s : Framed) → AnswersTo o regs regs' p
     → told o regs' c s ≡ one (cpu_of regs c) (interp framed p s s)
 unfolding told interp AnswersTo
-answered regs regs' c (Done n) p s e = no_storage regs regs' c n p s e
-answered regs regs' c (Stop k a) p s (e, f) = rw (f, ← e)
+answered regs regs' c (Ok n) p s e = no_storage regs regs' c n p s e
+answered regs regs' c (Err k) p s (e, f) = rw (f, ← e)
 
 -- the state and the store that a program ends in
 ends : (regs regs' : List ℕ) (c n : Now) (p : Prog Cpu) (s s' : Framed) → interp framed p s s ≡ finished (cpu_of regs' n) s'
-    → told (Done n) regs' c s' ≡ one (cpu_of regs c) (interp framed p s s)
+    → told (Ok n) regs' c s' ≡ one (cpu_of regs c) (interp framed p s s)
 unfolding told
 ends regs regs' c n p s s' e = ap (one (cpu_of regs c)) (sym e)
 
-stops : (regs : List ℕ) (c : Now) (k a : ℕ) (p : Prog Cpu) (s : Framed) → interp framed p s s ≡ refused k a s
-    → told (Stop k a) regs c s ≡ one (cpu_of regs c) (interp framed p s s)
+stops : (regs : List ℕ) (c : Now) (k : Stop) (p : Prog Cpu) (s : Framed) → interp framed p s s ≡ refused (number k) (place k) s
+    → told (Err k) regs c s ≡ one (cpu_of regs c) (interp framed p s s)
 unfolding told
-stops regs c k a p s e = ap (one (cpu_of regs c)) (sym e)
+stops regs c k p s e = ap (one (cpu_of regs c)) (sym e)
 
 -- a refusal that is handed on
-hands_on : (regs : List ℕ) (c : Now) (p : Prog Cpu) (s : Framed) (found : Look) (out : Out) (d : Cause) (b : ℕ)
-    → out ≡ refusal_of found → found ≡ Refused d b → interp framed p s s ≡ refused (number_of d) b s
-    → told out regs c s ≡ one (cpu_of regs c) (interp framed p s s)
-hands_on regs c p s found out d b eo ef e = rw (eo, ef) (stops regs c (number_of d) b p s e)
+hands_on : (regs : List ℕ) (c : Now) (p : Prog Cpu) (s : Framed) (out : Stop) (q : Refusal)
+    → out ≡ refusal_of q → interp framed p s s ≡ refused (number_of q.cause) q.place s
+    → told (Err out) regs c s ≡ one (cpu_of regs c) (interp framed p s s)
+hands_on regs c p s out q eo e = rw eo (stops regs c (refusal_of q) p s (e ∙ sym (handed_on q.cause q.place s)))
 
 module _ (regs : List ℕ) (c : Now) (mem map : List ℕ) where
   -- an operand on a boundary of w, m bytes from a
   module _ (w a : ℕ) (acc : Access) (m : ℕ) (k : Prog Cpu) where
     pub operand_off : (a % w ≡ 0 → ⊥)
-        → told (Stop 2 a) regs c (framed_of mem map)
+        → told (Err (Boundary a)) regs c (framed_of mem map)
         ≡ one (cpu_of regs c) (interp framed (aligned w a (looks acc a m k)) (framed_of mem map) (framed_of mem map))
     unfolding interp
     operand_off h =
-        stops regs c 2 a (aligned w a (looks acc a m k)) (framed_of mem map)
+        stops regs c (Boundary a) (aligned w a (looks acc a m k)) (framed_of mem map)
         (ap (λ (p : Prog Cpu). interp framed p (framed_of mem map) (framed_of mem map)) (off_boundary w a (looks acc a m k) h))
 
     module _ (op : ForOperand acc) (h : a % w ≡ 0) (found : Look) (e : found ≡ look_one map (length mem) acc a m) where
-      pub operand_stop : (out : Out) (d : Cause) (b : ℕ) → 0 < m → out ≡ refusal_of found → found ≡ Refused d b
-          → told out regs c (framed_of mem map)
+      pub operand_stop : (out : Stop) (q : Refusal) → 0 < m → out ≡ refusal_of q → found ≡ Err q
+          → told (Err out) regs c (framed_of mem map)
           ≡ one (cpu_of regs c) (interp framed (aligned w a (looks acc a m k)) (framed_of mem map) (framed_of mem map))
-      operand_stop out d b l eo ef =
-          hands_on regs c (aligned w a (looks acc a m k)) (framed_of mem map) found out d b eo ef
+      operand_stop out q l eo ef =
+          hands_on regs c (aligned w a (looks acc a m k)) (framed_of mem map) out q eo
           (ap (λ (p : Prog Cpu). interp framed p (framed_of mem map) (framed_of mem map)) (on_boundary w a (looks acc a m k) h)
-          ∙ one_stop acc op a m k mem map (framed_of mem map) d b (sym e ∙ ef) l)
+          ∙ one_stop acc op a m k mem map (framed_of mem map) q.cause q.place (sym e ∙ ef) l)
 
       -- found, what comes after the look-ups decides
       pub operand_comes : (r y : ℕ) (map' : List ℕ) (x : Answer Cpu Framed) → found ≡ At r y → map' ≡ note_field map a m
@@ -97,30 +97,30 @@ module _ (regs : List ℕ) (c : Now) (mem map : List ℕ) where
 
       pub operand_go : (r y : ℕ) (map' regs' : List ℕ) (t : Framed) (next : Now) → found ≡ At r y → map' ≡ note_field map a m
           → interp framed k (framed_of mem map) (framed_of mem map') ≡ finished (cpu_of regs' next) t
-          → told (Done next) regs' c t
+          → told (Ok next) regs' c t
           ≡ one (cpu_of regs c) (interp framed (aligned w a (looks acc a m k)) (framed_of mem map) (framed_of mem map))
       operand_go r y map' regs' t next ef em ek =
           ends regs regs' c next (aligned w a (looks acc a m k)) (framed_of mem map) t (operand_comes r y map' _ ef em ek)
 
       -- refused after all, by what comes after the look-ups: the operand's mark is not kept
-      pub operand_refused : (r y : ℕ) (map' : List ℕ) (n b : ℕ) → found ≡ At r y → map' ≡ note_field map a m
-          → interp framed k (framed_of mem map) (framed_of mem map') ≡ refused n b (framed_of mem map)
-          → told (Stop n b) regs c (framed_of mem map)
+      pub operand_refused : (r y : ℕ) (map' : List ℕ) (n : Stop) → found ≡ At r y → map' ≡ note_field map a m
+          → interp framed k (framed_of mem map) (framed_of mem map') ≡ refused (number n) (place n) (framed_of mem map)
+          → told (Err n) regs c (framed_of mem map)
           ≡ one (cpu_of regs c) (interp framed (aligned w a (looks acc a m k)) (framed_of mem map) (framed_of mem map))
-      operand_refused r y map' n b ef em ek =
-          stops regs c n b (aligned w a (looks acc a m k)) (framed_of mem map) (operand_comes r y map' _ ef em ek)
+      operand_refused r y map' n ef em ek =
+          stops regs c n (aligned w a (looks acc a m k)) (framed_of mem map) (operand_comes r y map' _ ef em ek)
 
   -- one byte
   module _ (acc : Access) (op : ForOperand acc) (a : ℕ) (k : Prog Cpu) (found : Look) (e : found ≡ look_of map (length mem) acc a) where
-    pub byte_no : (out : Out) (d : Cause) (b : ℕ) → out ≡ refusal_of found → found ≡ Refused d b
-        → told out regs c (framed_of mem map) ≡ one (cpu_of regs c) (interp framed (look acc a k) (framed_of mem map) (framed_of mem map))
-    byte_no out d b eo ef =
-        hands_on regs c (look acc a k) (framed_of mem map) found out d b eo ef
-        (byte_stop acc op a k mem map (framed_of mem map) d b (sym e ∙ ef))
+    pub byte_no : (out : Stop) (q : Refusal) → out ≡ refusal_of q → found ≡ Err q
+        → told (Err out) regs c (framed_of mem map) ≡ one (cpu_of regs c) (interp framed (look acc a k) (framed_of mem map) (framed_of mem map))
+    byte_no out q eo ef =
+        hands_on regs c (look acc a k) (framed_of mem map) out q eo
+        (byte_stop acc op a k mem map (framed_of mem map) q.cause q.place (sym e ∙ ef))
 
     pub byte_yes : (r y : ℕ) (map' : List ℕ) (t : Framed) (next : Now) → found ≡ At r y → map' ≡ accessed_at map a
         → interp framed k (framed_of mem map) (framed_of mem map') ≡ finished (cpu_of regs next) t
-        → told (Done next) regs c t ≡ one (cpu_of regs c) (interp framed (look acc a k) (framed_of mem map) (framed_of mem map))
+        → told (Ok next) regs c t ≡ one (cpu_of regs c) (interp framed (look acc a k) (framed_of mem map) (framed_of mem map))
     byte_yes r y map' t next ef em ek =
         ends regs regs c next (look acc a k) (framed_of mem map) t
         (byte_go acc op a k mem map (framed_of mem map) r y (sym e ∙ ef)
@@ -129,17 +129,17 @@ module _ (regs : List ℕ) (c : Now) (mem map : List ℕ) where
 
   -- two fields
   module _ (f g : Field) (op : ForOperand f.access) (op' : ForOperand g.access) (k : Prog Cpu) (h : 0 < f.len) (found : Look) (e : found ≡ look_fields map (length mem) (f ∷ g ∷ []) (look_of map (length mem) f.access f.at)) where
-    pub two_no : (out : Out) (d : Cause) (b : ℕ) → out ≡ refusal_of found → found ≡ Refused d b
-        → told out regs c (framed_of mem map)
+    pub two_no : (out : Stop) (q : Refusal) → out ≡ refusal_of q → found ≡ Err q
+        → told (Err out) regs c (framed_of mem map)
         ≡ one (cpu_of regs c) (interp framed (looks f.access f.at f.len (looks g.access g.at g.len k)) (framed_of mem map) (framed_of mem map))
-    two_no out d b eo ef =
-        hands_on regs c (looks f.access f.at f.len (looks g.access g.at g.len k)) (framed_of mem map) found out d b eo ef
+    two_no out q eo ef =
+        hands_on regs c (looks f.access f.at f.len (looks g.access g.at g.len k)) (framed_of mem map) out q eo
         (two_is f g op op' k mem map (framed_of mem map) h found e ∙ rw ef)
 
     pub two_yes : (r y : ℕ) (map' map'' : List ℕ) (t : Framed) (next : Now) → found ≡ At r y
         → map' ≡ note_field map f.at f.len → map'' ≡ note_field map' g.at g.len
         → interp framed k (framed_of mem map) (framed_of mem map'') ≡ finished (cpu_of regs next) t
-        → told (Done next) regs c t
+        → told (Ok next) regs c t
         ≡ one (cpu_of regs c) (interp framed (looks f.access f.at f.len (looks g.access g.at g.len k)) (framed_of mem map) (framed_of mem map))
     two_yes r y map' map'' t next ef em en ek =
         ends regs regs c next (looks f.access f.at f.len (looks g.access g.at g.len k)) (framed_of mem map) t
@@ -150,7 +150,7 @@ module _ (regs : List ℕ) (c : Now) (mem map : List ℕ) where
         ∙ ek))
 
 -- a load's last state
-pub taken_done : (regs regs' : List ℕ) (c : Now) (op : Operand) (r x n a p : ℕ) (res : Res) (s : Framed) → n ≡ bytes_of (width_of op)
+pub taken_done : (regs regs' : List ℕ) (c : Now) (op : Operand) (r x n a p : ℕ) (res : Res ℕ) (s : Framed) → n ≡ bytes_of (width_of op)
     → res ≡ taken op x (read_field s a (bytes_of (width_of op)) 0) c.code → x ≡ get_or regs r 0 → regs' ≡ set regs r res.value
     → p ≡ ahead (cpu_of regs c) 4
     → done (cpu_of regs' (record { pc = p; code = res.code; mask = c.mask }))
@@ -195,7 +195,7 @@ compared regs next kept s a b n v k ev ek =
     ∙ ap (λ (p : Prog Cpu). interp framed p kept s) (sym ek)
 
 -- an operand that was read where it was found
-pub taken_at_lem : (op : Operand) (w : Width) (x code i a : ℕ) (mem : List ℕ) (s : Framed) (res : Res) → w ≡ width_of op
+pub taken_at_lem : (op : Operand) (w : Width) (x code i a : ℕ) (mem : List ℕ) (s : Framed) (res : Res ℕ) → w ≡ width_of op
     → res ≡ taken op x (flat mem i (bytes_of (width_of op)) 0) code → flat mem i (bytes_of w) 0 ≡ read_field s a (bytes_of w) 0
     → res ≡ taken op x (read_field s a (bytes_of (width_of op)) 0) code
 taken_at_lem op w x code i a mem s res ew er k =

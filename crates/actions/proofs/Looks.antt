@@ -5,15 +5,15 @@ use mathlib.Core.Path.{◌≡◌, refl, sym, ◌∙◌, ap}
 use mathlib.Core.List.{List, [], ◌∷◌}
 use borrow.Author.Tests.{eq-eqb, ne_eqb}
 use lib.ListN.{length}
+use Rattle.std.specs.Prelude.{Ok, Err}
 use Rattle.pages.specs.declared.Access.{Access}
 use Rattle.pages.specs.declared.Cause.{Cause}
-use Rattle.pages.specs.declared.Look.{Look}
-use Rattle.pages.specs.declared.Look.TheVariants.{At, Refused}
+use Rattle.pages.specs.declared.Refusal.{Refusal}
 use Rattle.pages.specs.Word.{next}
 use Rattle.pages.specs.Tests.{number_of}
-use Rattle.pages.specs.Look.{look_of}
+use Rattle.pages.specs.Look.{Look, At, Refused, look_of}
 use Rattle.pages.specs.Framed.{Framed, framed_of, accessed_at}
-use Rattle.pages.proofs.LookLaws.{refused_place}
+use Rattle.pages.proofs.LookLaws.{refused_place, same_refusal}
 use Rattle.machine.specs.Prog.{Prog, fail, look, refused, interp}
 use Rattle.machine.specs.Fields.{looks, aligned}
 use Rattle.machine.specs.Store.{framed}
@@ -32,8 +32,8 @@ field_cases map size acc a (suc n) rest r = go (look_of map size acc a) (field_c
     go : (l : Look)
         → look_field map size acc (next a) n rest ≡ or_else (look_field map size acc (next a) n (At r 0)) rest
         → or_else l (look_field map size acc (next a) n rest) ≡ or_else (or_else l (look_field map size acc (next a) n (At r 0))) rest
-    go (At x y) ih = ih
-    go (Refused c p) ih = refl
+    go (Ok s) ih = ih
+    go (Err e) ih = refl
 
 -- the first byte of a field that is clear is found
 first_found : (map : List ℕ) (size : ℕ) (acc : Access) (a n : ℕ) (rest : Look) (r k : ℕ) → 0 < n
@@ -44,8 +44,8 @@ first_found map size acc a (suc n) rest r k h e = go (look_of map size acc a) re
   where
     go : (l : Look) → look_of map size acc a ≡ l → or_else l (look_field map size acc (next a) n rest) ≡ At r k
         → (x : ℕ) × (y : ℕ) × (look_of map size acc a ≡ At x y)
-    go (At x y) f e = (x, y, f)
-    go (Refused c p) f e = absurd (let z : ◌≡◌ {A = ℕ} 0 1 = cc in omega arith)
+    go (Ok s) f e = (s.at, s.reach, f)
+    go (Err refusal) f e = absurd (let z : ◌≡◌ {A = ℕ} 0 1 = cc in omega arith)
 
 module _ {R : Type 0} (acc : Access) (op : ForOperand acc) (a n : ℕ) (k : Prog R) (mem map : List ℕ) (kept : Framed) where
   pub one_stop : (c : Cause) (p : ℕ) → look_one map (length mem) acc a n ≡ Refused c p → 0 < n
@@ -55,13 +55,11 @@ module _ {R : Type 0} (acc : Access) (op : ForOperand acc) (a n : ℕ) (k : Prog
     where
       go : (l : Look) → look_field map (length mem) acc a n (At 0 0) ≡ l
           → after_look l (λ t. interp framed k kept t) (framed_of mem (note_field map a n)) kept ≡ refused (number_of c) p kept
-      go (Refused d q) f =
-          let j : Refused d q ≡ Refused c p = ap (λ (l : Look). or_else l (look_of map (length mem) acc a)) (sym f) ∙ sym (field_cases map (length mem) acc a n (look_of map (length mem) acc a) 0) ∙ e in
-          let x : d ≡ c = cc in
-          let y : q ≡ p = cc in
-          rw (x, y)
-      go (At r y) f =
-          let t = first_found map (length mem) acc a n (At 0 0) r y h f in
+      go (Err refusal) f =
+          let j : ◌≡◌ {A = Look} (Err refusal) (Refused c p) = ap (λ (l : Look). or_else l (look_of map (length mem) acc a)) (sym f) ∙ sym (field_cases map (length mem) acc a n (look_of map (length mem) acc a) 0) ∙ e in
+          ap (λ (g : Refusal). refused (number_of g.cause) g.place kept) (same_refusal j)
+      go (Ok s) f =
+          let t = first_found map (length mem) acc a n (At 0 0) s.at s.reach h f in
           let j : look_of map (length mem) acc a ≡ Refused c p = ap (λ (l : Look). or_else l (look_of map (length mem) acc a)) (sym f) ∙ sym (field_cases map (length mem) acc a n (look_of map (length mem) acc a) 0) ∙ e in
           absurd (let z : ◌≡◌ {A = ℕ} 0 1 = cc t.2 in omega arith)
 
@@ -72,9 +70,9 @@ module _ {R : Type 0} (acc : Access) (op : ForOperand acc) (a n : ℕ) (k : Prog
     where
       go : (l : Look) → look_field map (length mem) acc a n (At 0 0) ≡ l
           → after_look l (λ t. interp framed k kept t) (framed_of mem (note_field map a n)) kept ≡ interp framed k kept (framed_of mem (note_field map a n))
-      go (At x z) f = refl
-      go (Refused d q) f =
-          let j : Refused d q ≡ At r y = ap (λ (l : Look). or_else l (look_of map (length mem) acc a)) (sym f) ∙ sym (field_cases map (length mem) acc a n (look_of map (length mem) acc a) 0) ∙ e in
+      go (Ok s) f = refl
+      go (Err refusal) f =
+          let j : ◌≡◌ {A = Look} (Err refusal) (At r y) = ap (λ (l : Look). or_else l (look_of map (length mem) acc a)) (sym f) ∙ sym (field_cases map (length mem) acc a n (look_of map (length mem) acc a) 0) ∙ e in
           absurd (let z : ◌≡◌ {A = ℕ} 0 1 = cc in omega arith)
 
 -- a single byte
@@ -114,15 +112,15 @@ module _ {R : Type 0} (f g : Field) (op : ForOperand f.access) (op' : ForOperand
           → look_field map (length mem) g.access g.at g.len (At 0 0) ≡ l
           → after_look l (λ t. interp framed k kept t) (framed_of mem (note_field (note_field map f.at f.len) g.at g.len)) kept
           ≡ after_look (or_else l (look_of map (length mem) f.access f.at)) (λ t. interp framed k kept t) (framed_of mem (note_field (note_field map f.at f.len) g.at g.len)) kept
-      second x z (At y w) t q = rw t
-      second x z (Refused c p) t q = refl
+      second x z (Ok s) t q = rw t
+      second x z (Err e) t q = refl
 
       first : (l : Look) → look_field map (length mem) f.access f.at f.len (At 0 0) ≡ l
           → after_look l (λ t. interp framed (looks g.access g.at g.len k) kept t) (framed_of mem (note_field map f.at f.len)) kept
           ≡ after_look (or_else l (look_field map (length mem) g.access g.at g.len (look_of map (length mem) f.access f.at))) (λ t. interp framed k kept t) (framed_of mem (note_field (note_field map f.at f.len) g.at g.len)) kept
-      first (Refused c p) q = refl
-      first (At x z) q =
-          let t = first_found map (length mem) f.access f.at f.len (At 0 0) x z h q in
+      first (Err e) q = refl
+      first (Ok s) q =
+          let t = first_found map (length mem) f.access f.at f.len (At 0 0) s.at s.reach h q in
           looks_is g.access op' g.at g.len k kept (framed_of mem (note_field map f.at f.len)) 0
           ∙ ap (λ (l : Look). after_look l (λ u. interp framed k kept u) (framed_of mem (note_field (note_field map f.at f.len) g.at g.len)) kept)
           (marked_blind mem map f.at f.len g.access g.at g.len (At 0 0))

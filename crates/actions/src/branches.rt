@@ -24,31 +24,23 @@ pub fn link_word(regs: &[u32], c: Now, len: u32) -> u32
     ensures { result ≡ link (cpu_of regs.now c) len }
 {
     let next = registers::ahead_of(regs, c, len);
-    let high = (len / 2) as u64 * 1073741824 + c.code as u64 * 268435456;
-    ((high + c.mask as u64 * 16777216 + next as u64) % 4294967296) as u32
+    let high = u64::from(len / 2) * 1073741824 + u64::from(c.code) * 268435456;
+    ((high + u64::from(c.mask) * 16777216 + u64::from(next)) % 4294967296) as u32
 }
 
 pub fn less_one(v: u32) -> u32
     ensures { result ≡ less_one v }
 {
-    ((v as u64 + 4294967295) % 4294967296) as u32
+    v.wrapping_sub(1)
 }
 
 // The scalars with the counter at `to` where the branch goes, else at `next`.
 pub fn go(regs: &[u32], c: Now, goes: bool, to: u32, next: u32) -> Now
     ensures { cpu_of regs.now result ≡ going goes to (with_pc (cpu_of regs.now c) next) }
 {
-    if goes {
-        return Now {
-            pc: to,
-            code: c.code,
-            mask: c.mask,
-        };
-    }
     Now {
-        pc: next,
-        code: c.code,
-        mask: c.mask,
+        pc: if goes { to } else { next },
+        ..c
     }
 }
 
@@ -56,10 +48,7 @@ fn on_condition(regs: &[u32], c: Now, len: u32, r: u8, to: u32, may: bool) -> No
     ensures { cpu_of regs.now result ≡ branch Branch.OnCondition len r to may (cpu_of regs.now c) }
 {
     let next = registers::ahead_of(regs, c, len);
-    if may {
-        return go(regs, c, is_chosen(r, c.code), to, next);
-    }
-    go(regs, c, false, to, next)
+    go(regs, c, may && is_chosen(r, c.code), to, next)
 }
 
 fn and_link(regs: &mut [u32], c: Now, len: u32, r: u8, to: u32, may: bool) -> Now
@@ -77,12 +66,10 @@ fn on_count(regs: &mut [u32], c: Now, len: u32, r: u8, to: u32, may: bool) -> No
     let next = registers::ahead_of(regs, c, len);
     let count = less_one(registers::reg(regs, r));
     registers::put_reg(regs, r, count);
-    if may {
-        return go(regs, c, 0 < count, to, next);
-    }
-    go(regs, c, false, to, next)
+    go(regs, c, may && 0 < count, to, next)
 }
 
+// `to` and `may` as the definition has them: the address, and whether a branch may go there at all (machine/specs/Branches).
 pub fn take(regs: &mut [u32], c: Now, kind: Branch, len: u32, r: u8, to: u32, may: bool) -> Now
     ensures { cpu_of regs.new result ≡ branch kind len r to may (cpu_of regs.old c) }
 {

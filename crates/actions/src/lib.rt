@@ -7,44 +7,69 @@ pub mod registers;
 pub mod rr;
 
 ghost use Rattle.std.specs.Prelude.{◌≡◌};
-ghost use Rattle.pages.specs.Tests.{number_of};
-ghost use Rattle.actions.specs.Answered.{refusal_of};
+ghost use Rattle.actions.specs.Answered.{number, place, refusal_of};
 
-use pages::{Cause, Look};
+use pages::{Cause, Refusal};
 
-// The state's scalars; the registers are lent beside it. Twelve bytes: a struct of eight is carried as one number, and then the next
+// The state's scalars; the registers are lent beside it, and so are memory and map, one by one: a parameter's type says which of the three an
+// instruction may change. Twelve bytes: a struct of eight is carried as one number, and then the next
 // fetch waits for the condition code (measured: 17 ns an instruction instead of 7).
-#[derive(Clone, Copy)]
+#[derive(Clone, Copy, Debug, PartialEq, Eq)]
 pub struct Now {
     pub pc: u32,
     pub code: u32,
     pub mask: u32,
 }
 
-// An instruction's answer: done, with the scalars afterwards, or stopped with a number at a place.
-#[derive(Clone, Copy)]
-pub enum Out {
-    Done(Now),
-    Stop(u32, u32),
+// Why an instruction stops, and at which place: an executor answers with the scalars afterwards, or with this.
+#[derive(Clone, Copy, Debug, PartialEq, Eq)]
+pub enum Stop {
+    Addressing(u32),
+    Boundary(u32),
+    PagingQueue(u32),
+    PagingError(u32),
+    Unknown(u32),
+    Divide(u32),
 }
 
-// Document 01's number for a cause.
-pub fn number_of(cause: Cause) -> u32
-    ensures { result ≡ number_of cause }
-{
-    match cause {
-        Cause::Addressing => 1,
-        Cause::PagingQueue => 3,
-        Cause::PagingError => 4,
+impl Stop {
+    // Document 01's number.
+    pub fn number(self) -> u32
+        ensures { result ≡ number self }
+    {
+        match self {
+            Stop::Addressing(_) => 1,
+            Stop::Boundary(_) => 2,
+            Stop::PagingQueue(_) => 3,
+            Stop::PagingError(_) => 4,
+            Stop::Unknown(_) => 5,
+            Stop::Divide(_) => 8,
+        }
+    }
+
+    pub fn place(self) -> u32
+        ensures { result ≡ place self }
+    {
+        match self {
+            Stop::Addressing(at)
+            | Stop::Boundary(at)
+            | Stop::PagingQueue(at)
+            | Stop::PagingError(at)
+            | Stop::Unknown(at)
+            | Stop::Divide(at) => at,
+        }
     }
 }
 
 // A look-up's refusal, handed on.
-pub fn refusal(look: Look) -> Out
-    ensures { result ≡ refusal_of look }
-{
-    match look {
-        Look::Refused(cause, at) => Out::Stop(number_of(cause), at),
-        Look::At(_, _) => Out::Stop(0, 0),
+impl From<Refusal> for Stop {
+    ghost from_gives = { λ r stop. stop ≡ refusal_of r };
+
+    fn from(refused: Refusal) -> Stop {
+        match refused.cause {
+            Cause::Addressing => Stop::Addressing(refused.place),
+            Cause::PagingQueue => Stop::PagingQueue(refused.place),
+            Cause::PagingError => Stop::PagingError(refused.place),
+        }
     }
 }

@@ -5,7 +5,7 @@ ghost use Rattle.code.specs.Formats.{rr_of};
 ghost use Rattle.machine.specs.Rr.{rr};
 ghost use Rattle.actions.specs.Answered.{cpu_of, AnswersTo};
 
-use crate::{Now, Out, branches, pairs, registers};
+use crate::{Now, Stop, branches, pairs, registers};
 use code::{Branch, RrAction};
 use words::{Alu, PairOp};
 
@@ -21,7 +21,7 @@ pub fn combine(regs: &mut [u32], c: Now, op: Alu, h1: u16) -> Now
     Now {
         pc: next,
         code: result.code,
-        mask: c.mask,
+        ..c
     }
 }
 
@@ -34,22 +34,22 @@ fn branch(regs: &mut [u32], c: Now, kind: Branch, h1: u16) -> Now
 }
 
 // MR DR.
-pub fn pair(regs: &mut [u32], c: Now, op: PairOp, h1: u16) -> Out
+pub fn pair(regs: &mut [u32], c: Now, op: PairOp, h1: u16) -> Result<Now, Stop>
     ensures { AnswersTo result regs.old regs.new (rr (RrAction.PairAndRegister op) (rr_of h1) (cpu_of regs.old c)) }
 {
     let f = decode::split_rr(h1);
     if f.r1 % 2 != 0 {
-        return Out::Stop(2, c.pc);
+        return Err(Stop::Boundary(c.pc));
     }
     pairs::work(regs, c, op, f.r1, registers::reg(regs, f.r2), 2)
 }
 
-pub fn execute(regs: &mut [u32], c: Now, x: RrAction, h1: u16) -> Out
+pub fn execute(regs: &mut [u32], c: Now, x: RrAction, h1: u16) -> Result<Now, Stop>
     ensures { AnswersTo result regs.old regs.new (rr x (rr_of h1) (cpu_of regs.old c)) }
 {
     match x {
-        RrAction::Registers(op) => Out::Done(combine(regs, c, op, h1)),
-        RrAction::RegisterBranch(kind) => Out::Done(branch(regs, c, kind, h1)),
+        RrAction::Registers(op) => Ok(combine(regs, c, op, h1)),
+        RrAction::RegisterBranch(kind) => Ok(branch(regs, c, kind, h1)),
         RrAction::PairAndRegister(op) => pair(regs, c, op, h1),
     }
 }

@@ -7,10 +7,10 @@ use native.Mathlib.Omega.{arith}
 use lib.Dec.{leb}
 use lib.IntN.{nat_abs}
 use borrow.Author.Tests.{eq-eqb, ne_eqb}
+use Rattle.std.specs.Prelude.{Ok}
 use Rattle.words.specs.declared.PairOp.TheVariants.{Divide}
-use Rattle.words.specs.declared.Paired.TheVariants.{Value, DivideError}
 use Rattle.words.specs.Whole.{word_top, double_top, signed, kept, overflows}
-use Rattle.words.specs.Wide.{product_of, quotient_of, remainder_of, pair_of}
+use Rattle.words.specs.Wide.{no_quotient, product_of, quotient_of, remainder_of, pair_of}
 use Rattle.words.proofs.Signs.{sized, unlike, product_sized, quotient_sized, remainder_sized}
 use Rattle.words.proofs.Range.{signed_minus}
 
@@ -39,16 +39,16 @@ module _ (w b x y : ℕ) (l : w < 18446744073709551616) (k : b < 4294967296)
 
   module _ (o : Bool) (n : b ≡ 0 → ⊥)
       (h : o ≡ overflows word_top (sized (unlike (leb 9223372036854775808 w) (leb 2147483648 b)) (x / y))) where
-    pub divide_over : o ≡ true → DivideError ≡ pair_of Divide w b
+    pub divide_over : o ≡ true → no_quotient ≡ pair_of Divide w b
     unfolding pair_of
     divide_over t = rw (ne_eqb b 0 n, quotient_told, sym h ∙ t)
 
     pub divide_fits : (left right : ℕ) → o ≡ false → left ≡ kept word_top (sized (leb 9223372036854775808 w) (x % y))
         → right ≡ kept word_top (sized (unlike (leb 9223372036854775808 w) (leb 2147483648 b)) (x / y))
-        → Value (left * 4294967296 + right) ≡ pair_of Divide w b
+        → Ok (left * 4294967296 + right) ≡ pair_of Divide w b
     unfolding pair_of
     divide_fits left right t p q = rw (ne_eqb b 0 n, quotient_told, sym h ∙ t, remainder_told, p, q)
 
-pub divide_zero : (w b : ℕ) → b ≡ 0 → DivideError ≡ pair_of Divide w b
+pub divide_zero : (w b : ℕ) → b ≡ 0 → no_quotient ≡ pair_of Divide w b
 unfolding pair_of
 divide_zero w b e = rw (eq-eqb b 0 e)

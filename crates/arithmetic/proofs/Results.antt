@@ -48,7 +48,7 @@ module _ (t : ℕ) where
       (λ h. rw (lifted_over t, le-ltb t 2147483648 h, lt-ltb 6442450943 t (omega arith), lifted_kept t))
 
 -- x is the word lifted
-module _ (b x : ℕ) (r : Res) (e : signed word_top b ≡ sub_ℕ x 2147483648) where
+module _ (b x : ℕ) (r : Res ℕ) (e : signed word_top b ≡ sub_ℕ x 2147483648) where
   pub test_word : r ≡ signed_result (sub_ℕ (x + 2147483648) 4294967296) → r ≡ signed_result (signed word_top b)
   test_word h = rw (h, e) (ap signed_result (same_difference (x + 2147483648) 4294967296 x 2147483648 (omega arith)))
 
@@ -57,7 +57,7 @@ module _ (b x : ℕ) (r : Res) (e : signed word_top b ≡ sub_ℕ x 2147483648) 
       rw (h, e) (ap signed_result (same_difference (6442450944 - x) 4294967296 2147483648 x (omega arith) ∙ sym (neg_sub x 2147483648)))
 
 -- n is its magnitude
-module _ (b n : ℕ) (r : Res) (e : n ≡ nat_abs (signed word_top b)) where
+module _ (b n : ℕ) (r : Res ℕ) (e : n ≡ nat_abs (signed word_top b)) where
   pub positive_word : r ≡ signed_result (sub_ℕ (4294967296 + n) 4294967296) → r ≡ signed_result (magnitude (signed word_top b))
   positive_word h = rw (h, ← e, positive_is n)
 
@@ -69,10 +69,10 @@ module _ (b n : ℕ) (r : Res) (e : n ≡ nat_abs (signed word_top b)) where
 
 -- x and y are the words lifted
 module _ (a b x y : ℕ) (e : signed word_top a ≡ sub_ℕ x 2147483648) (f : signed word_top b ≡ sub_ℕ y 2147483648) where
-  pub add_words : (r : Res) → r ≡ signed_result (sub_ℕ (x + y) 4294967296) → r ≡ signed_result (signed word_top a +ℤ signed word_top b)
+  pub add_words : (r : Res ℕ) → r ≡ signed_result (sub_ℕ (x + y) 4294967296) → r ≡ signed_result (signed word_top a +ℤ signed word_top b)
   add_words r h = rw (h, e, f) (ap signed_result (sym (add_sub x 2147483648 y 2147483648)))
 
-  pub subtract_words : (r : Res) → y < 4294967296 → r ≡ signed_result (sub_ℕ (4294967296 + x - y) 4294967296)
+  pub subtract_words : (r : Res ℕ) → y < 4294967296 → r ≡ signed_result (sub_ℕ (4294967296 + x - y) 4294967296)
       → r ≡ signed_result (signed word_top a -ℤ signed word_top b)
   subtract_words r l h =
       let d = same_difference (4294967296 + x - y) 4294967296 (x + 2147483648) (2147483648 + y) (omega arith) in

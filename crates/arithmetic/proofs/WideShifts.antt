@@ -10,7 +10,7 @@ use lib.IntN.{pos, negsuc, ◌*ℤ◌}
 use lib.Pow.{pow_pos}
 use Rattle.words.specs.declared.Direction.{Direction}
 use Rattle.words.specs.declared.Direction.TheVariants.{Left, Right}
-use Rattle.words.specs.declared.Shifted.{Shifted}
+use Rattle.words.specs.declared.Res.{Res}
 use Rattle.words.specs.Pick.{pick}
 use Rattle.words.specs.Whole.{signed, overflows}
 use Rattle.words.specs.Codes.{sign_code}
@@ -107,5 +107,5 @@ sum_small top a x h l =
     omega (arith, mod-lt x t)
 
 -- a shifted number has as many bits as it had
-pub value_small : (top : ℕ) → 0 < top → (to : Direction) (a n : ℕ) (r : Shifted) → r ≡ shifted_of to top a n → r.value < top + top
-value_small top h to a n r e = subst (λ (s : Shifted). s.value < top + top) (sym e) (shifted_below to top a n h)
+pub value_small : (top : ℕ) → 0 < top → (to : Direction) (a n : ℕ) (r : Res ℕ) → r ≡ shifted_of to top a n → r.value < top + top
+value_small top h to a n r e = subst (λ (s : Res ℕ). s.value < top + top) (sym e) (shifted_below to top a n h)

@@ -5,16 +5,18 @@ ghost use Rattle.std.specs.Prelude.{◌≡◌};
 ghost use Rattle.std.specs.Int.Signed.{lt_z};
 ghost use Rattle.words.specs.Whole.{word_top, signed, spread};
 ghost use Rattle.words.specs.Codes.{compare_bits, mask_code, zero_code};
-ghost use Rattle.words.specs.Combine.{combine_of, logic_of, shifted_left, shifted_right};
+ghost use Rattle.words.specs.Combine.{combine_of, shifted_left, shifted_right};
 
-use words::{Alu, Logic, Res};
+use std::cmp::Ordering;
+use words::{Alu, Res};
 
 pub mod signed; // signed.rt: signed results, by numbers that are lifted above zero
+pub mod bits; // bits.rt: bit by bit, once for every width
 pub mod logical; // logical.rt: sums with a carry
 pub mod wide; // wide.rt: multiply and divide
 pub mod shifts; // shifts.rt: signed shifts, over the width
 
-pub fn combine(op: Alu, a: u32, b: u32, code: u32) -> Res
+pub fn combine(op: Alu, a: u32, b: u32, code: u32) -> Res<u32>
     ensures { result ≡ combine_of op a b code }
 {
     match op {
@@ -34,26 +36,6 @@ pub fn combine(op: Alu, a: u32, b: u32, code: u32) -> Res
     }
 }
 
-pub fn logic_word(op: Logic, a: u32, b: u32) -> u32
-    ensures { result ≡ logic_of op a b }
-{
-    match op {
-        Logic::And => a & b,
-        Logic::Or => a | b,
-        Logic::Xor => a ^ b,
-    }
-}
-
-pub fn logic_byte(op: Logic, a: u8, b: u8) -> u8
-    ensures { result ≡ logic_of op a b }
-{
-    match op {
-        Logic::And => a & b,
-        Logic::Or => a | b,
-        Logic::Xor => a ^ b,
-    }
-}
-
 pub fn zero_code(v: u32) -> u32
     ensures { result ≡ zero_code v }
 {
@@ -63,10 +45,11 @@ pub fn zero_code(v: u32) -> u32
 pub fn compare_bits(a: u32, b: u32) -> u32
     ensures { result ≡ compare_bits a b }
 {
-    if a < b {
-        return 1;
+    match a.cmp(&b) {
+        Ordering::Less => 1,
+        Ordering::Equal => 0,
+        Ordering::Greater => 2,
     }
-    if b < a { 2 } else { 0 }
 }
 
 pub fn mask_code(b: u8, mask: u8) -> u32
@@ -74,19 +57,22 @@ pub fn mask_code(b: u8, mask: u8) -> u32
 {
     let chosen = b & mask;
     if chosen == 0 {
-        return 0;
+        0
+    } else if chosen == mask {
+        3
+    } else {
+        1
     }
-    if chosen == mask { 3 } else { 1 }
 }
 
 // The sign bit weighs -32768 in a halfword, and the 17 copies of it in the word weigh the same.
 pub fn widen(h: u16) -> u32
     ensures { result ≡ spread h }
 {
-    if h < 32768 {
-        h as u32
+    if h < 0x8000 {
+        u32::from(h)
     } else {
-        h as u32 + 4294901760
+        u32::from(h) + 0xFFFF_0000
     }
 }
 
@@ -95,7 +81,7 @@ pub fn shift_left(a: u32, n: u32) -> u32
 {
     let amount = n % 64;
     if amount < 32 {
-        (((a as u64) << amount) % 4294967296) as u32
+        ((u64::from(a) << amount) % 0x1_0000_0000) as u32
     } else {
         0
     }
@@ -112,5 +98,5 @@ pub fn shift_right(a: u32, n: u32) -> u32
 pub fn high(a: u32, b: u32) -> bool
     ensures { result ≡ lt_z (signed word_top b) (signed word_top a) }
 {
-    signed::lift(b) < signed::lift(a)
+    b.cast_signed() < a.cast_signed()
 }

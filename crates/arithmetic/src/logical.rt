@@ -3,47 +3,49 @@ ghost use Rattle.std.specs.Prelude.{◌≡◌, ◌+◌, ◌-◌};
 ghost use Rattle.words.specs.Codes.{zero_code};
 ghost use Rattle.words.specs.Combine as def;
 
+use crate::bits;
 use words::{Logic, Res};
 
 // A word with a code; nothing overflowed.
-pub fn result_of(value: u32, code: u32) -> Res
+pub fn result_of(value: u32, code: u32) -> Res<u32>
     ensures { result ≡ def.result_of value code }
 {
     Res {
-        value: value,
-        code: code,
+        value,
+        code,
         over: false,
     }
 }
 
 // A sum's low 32 bits, and a code that tells of zero and of the carry.
-pub fn carry(sum: u64) -> Res
+pub fn carry(sum: u64) -> Res<u32>
     ensures { result ≡ def.carried sum }
 {
-    let value = (sum % 4294967296) as u32;
+    let value = (sum % 0x1_0000_0000) as u32;
     let zero = crate::zero_code(value);
-    if sum < 4294967296 {
-        return result_of(value, zero);
+    if sum < 0x1_0000_0000 {
+        result_of(value, zero)
+    } else {
+        result_of(value, 2 + zero)
     }
-    result_of(value, 2 + zero)
 }
 
-pub fn add(a: u32, b: u32) -> Res
+pub fn add(a: u32, b: u32) -> Res<u32>
     ensures { result ≡ def.carried (a + b) }
 {
-    carry(a as u64 + b as u64)
+    carry(u64::from(a) + u64::from(b))
 }
 
 // The complement of b, and one, are added.
-pub fn subtract(a: u32, b: u32) -> Res
+pub fn subtract(a: u32, b: u32) -> Res<u32>
     ensures { result ≡ def.carried (a + (4294967295 - b) + 1) }
 {
-    carry(a as u64 + (4294967295 - b) as u64 + 1)
+    carry(u64::from(a) + u64::from(!b) + 1)
 }
 
-pub fn bits(op: Logic, a: u32, b: u32) -> Res
+pub fn bits(op: Logic, a: u32, b: u32) -> Res<u32>
     ensures { result ≡ def.result_of (def.logic_of op a b) (zero_code (def.logic_of op a b)) }
 {
-    let value = crate::logic_word(op, a, b);
+    let value = bits::logic(op, a, b);
     result_of(value, crate::zero_code(value))
 }

@@ -6,43 +6,34 @@ ghost use Rattle.words.specs.Whole.{word_top, signed, magnitude};
 ghost use Rattle.words.specs.Codes.{compare_signed};
 ghost use Rattle.words.specs.Combine.{signed_result};
 
+use crate::logical;
 use words::Res;
 
 // The signed value plus 2^31.
 pub fn lift(a: u32) -> u32
     ensures { signed word_top a ≡ sub_ℕ result 2147483648 }
 {
-    if a < 2147483648 {
-        a + 2147483648
+    if a < 0x8000_0000 {
+        a + 0x8000_0000
     } else {
-        a - 2147483648
+        a - 0x8000_0000
     }
 }
 
 // t in units of 2^31: 1 is below zero, 2 is zero or above, anything else does not fit.
-pub fn result(t: u64) -> Res
+pub fn result(t: u64) -> Res<u32>
     ensures { result ≡ signed_result (sub_ℕ t 4294967296) }
 {
-    let value = (t % 4294967296) as u32;
-    let q = t / 2147483648;
-    if q == 1 {
-        return Res {
-            value: value,
-            code: 1,
-            over: false,
-        };
-    }
-    if q == 2 {
-        return Res {
-            value: value,
-            code: if value == 0 { 0 } else { 2 },
-            over: false,
-        };
-    }
-    Res {
-        value: value,
-        code: 3,
-        over: true,
+    let value = (t % 0x1_0000_0000) as u32;
+    match t / 0x8000_0000 {
+        1 => logical::result_of(value, 1),
+        2 if value == 0 => logical::result_of(value, 0),
+        2 => logical::result_of(value, 2),
+        _ => Res {
+            value,
+            code: 3,
+            over: true,
+        },
     }
 }
 
@@ -50,47 +41,43 @@ pub fn result(t: u64) -> Res
 pub fn magnitude_of(a: u32) -> u32
     ensures { (result ≡ nat_abs (signed word_top a)) × (result ≤ 2147483648) }
 {
-    if a < 2147483648 {
-        a
-    } else {
-        4294967295 - a + 1
-    }
+    a.cast_signed().unsigned_abs()
 }
 
-pub fn test(b: u32) -> Res
+pub fn test(b: u32) -> Res<u32>
     ensures { result ≡ signed_result (signed word_top b) }
 {
-    result(lift(b) as u64 + 2147483648)
+    result(u64::from(lift(b)) + 0x8000_0000)
 }
 
-pub fn complement(b: u32) -> Res
+pub fn complement(b: u32) -> Res<u32>
     ensures { result ≡ signed_result (neg_ℤ (signed word_top b)) }
 {
-    result(6442450944 - lift(b) as u64)
+    result(0x1_8000_0000 - u64::from(lift(b)))
 }
 
-pub fn positive(b: u32) -> Res
+pub fn positive(b: u32) -> Res<u32>
     ensures { result ≡ signed_result (magnitude (signed word_top b)) }
 {
-    result(4294967296 + magnitude_of(b) as u64)
+    result(0x1_0000_0000 + u64::from(magnitude_of(b)))
 }
 
-pub fn negative(b: u32) -> Res
+pub fn negative(b: u32) -> Res<u32>
     ensures { result ≡ signed_result (neg_ℤ (magnitude (signed word_top b))) }
 {
-    result(4294967296 - magnitude_of(b) as u64)
+    result(0x1_0000_0000 - u64::from(magnitude_of(b)))
 }
 
-pub fn add(a: u32, b: u32) -> Res
+pub fn add(a: u32, b: u32) -> Res<u32>
     ensures { result ≡ signed_result (signed word_top a +ℤ signed word_top b) }
 {
-    result(lift(a) as u64 + lift(b) as u64)
+    result(u64::from(lift(a)) + u64::from(lift(b)))
 }
 
-pub fn subtract(a: u32, b: u32) -> Res
+pub fn subtract(a: u32, b: u32) -> Res<u32>
     ensures { result ≡ signed_result (signed word_top a -ℤ signed word_top b) }
 {
-    result(4294967296 + lift(a) as u64 - lift(b) as u64)
+    result(0x1_0000_0000 + u64::from(lift(a)) - u64::from(lift(b)))
 }
 
 pub fn compare(a: u32, b: u32) -> u32

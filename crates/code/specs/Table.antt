@@ -1,7 +1,7 @@
 -- Every operation that the machine knows: the base set in document 01's order, then what requests of document 02 added, in theirs, with
 -- the operation code and the name of the manual's Appendix A (the line beside each row). What an action does is in the crate machine, by
 -- format: Rr, Rx, Rs, Si, Ss.
-use Rattle.std.specs.Prelude.{ℕ, List, [], ◌∷◌, eqb}
+use Rattle.std.specs.Prelude.{Option, Some, None, ℕ, List, [], ◌∷◌, eqb}
 use Prim.Native.String.{String}
 use Rattle.words.specs.Pick.{pick}
 use Rattle.words.specs.Said.{Said, says}
@@ -20,8 +20,6 @@ use Rattle.code.specs.declared.SiAction.TheVariants.{CompareByte, TestMask, Bits
 use Rattle.code.specs.declared.SsAction.TheVariants.{MoveField, CompareField}
 use Rattle.code.specs.declared.Action.{Action}
 use Rattle.code.specs.declared.Action.TheVariants.{Rr, Rx, Rs, Si, Ss}
-use Rattle.code.specs.declared.Found.{Found}
-use Rattle.code.specs.declared.Found.TheVariants.{Known, Unknown}
 
 pub record Row : Type 0 where
   pub code : ℕ
@@ -103,11 +101,11 @@ table =
     ∷ []
 
 -- the action of the first row with this code
-abbrev pub find : List Row → ℕ → Found
-find [] k = Unknown
-find (r ∷ rs) k = pick (eqb k r.code) (Known r.action) (find rs k)
+abbrev pub find : List Row → ℕ → Option Action
+find [] k = None
+find (r ∷ rs) k = pick (eqb k r.code) (Some r.action) (find rs k)
 
-unfoldable pub action_of : ℕ → Found
+unfoldable pub action_of : ℕ → Option Action
 action_of k = find table k
 
 -- the name of the first row with this code; none where no row has it
@@ -119,6 +117,6 @@ unfoldable pub name_of : ℕ → List ℕ
 name_of k = ascii (named table k)
 
 -- the enum's cases in document 01's terms: the action, or number 5
-abbrev pub found_says : Found → Said (List Action)
-found_says (Known x) = says 0 (x ∷ [])
-found_says Unknown = says 5 []
+abbrev pub found_says : Option Action → Said (List Action)
+found_says (Some x) = says 0 (x ∷ [])
+found_says None = says 5 []

@@ -78,12 +78,6 @@ pub enum Action {
 }
 
 #[derive(Clone, Copy)]
-pub enum Found {
-    Known(Action),
-    Unknown,
-}
-
-#[derive(Clone, Copy)]
 pub struct RrFields {
     pub r1: u8,
     pub r2: u8,

@@ -8,7 +8,6 @@ ghost use Rattle.code.specs.Formats.{length_of, rr_of, rx_of, rs_of, si_of, ss_o
 
 use code::Action::*;
 use code::Branch::*;
-use code::Found::*;
 use code::Operand::*;
 use code::RrAction::*;
 use code::RsAction::*;
@@ -16,7 +15,7 @@ use code::RxAction::*;
 use code::SiAction::*;
 use code::SsAction::*;
 use code::Width::*;
-use code::{Action, Found, RrFields, RsFields, RxFields, SiFields, SsFields};
+use code::{Action, RrFields, RsFields, RxFields, SiFields, SsFields};
 use words::Alu::*;
 use words::Direction::*;
 use words::Logic::*;
@@ -67,74 +66,74 @@ pub fn split_ss(h1: u16, h2: u16, h3: u16) -> SsFields
     SsFields { l, b1, d1, b2, d2 }
 }
 
-// The table, as a match: a row for each operation.
-pub fn action_of(op: u8) -> Found
+// The table, as a match: a row for each operation; no action where no row has the code.
+pub fn action_of(op: u8) -> Option<Action>
     ensures { result ≡ action_of op }
 {
     match op {
-        0x18 => Known(Rr(Registers(Load))), // LR
-        0x58 => Known(Rx(Taking(WordWith(Load)))), // L
-        0x48 => Known(Rx(Taking(HalfWith(Load)))), // LH
-        0x12 => Known(Rr(Registers(Test))), // LTR
-        0x13 => Known(Rr(Registers(Complement))), // LCR
-        0x10 => Known(Rr(Registers(Positive))), // LPR
-        0x11 => Known(Rr(Registers(Negative))), // LNR
-        0x98 => Known(Rs(LoadMultiple)), // LM
-        0x50 => Known(Rx(Storing(Word))), // ST
-        0x40 => Known(Rx(Storing(Half))), // STH
-        0x90 => Known(Rs(StoreMultiple)), // STM
-        0x41 => Known(Rx(LoadAddress)), // LA
-        0x43 => Known(Rx(Taking(ByteInserted))), // IC
-        0x42 => Known(Rx(Storing(Byte))), // STC
-        0x1A => Known(Rr(Registers(Add))), // AR
-        0x5A => Known(Rx(Taking(WordWith(Add)))), // A
-        0x1B => Known(Rr(Registers(Subtract))), // SR
-        0x5B => Known(Rx(Taking(WordWith(Subtract)))), // S
-        0x19 => Known(Rr(Registers(Compare))), // CR
-        0x59 => Known(Rx(Taking(WordWith(Compare)))), // C
-        0x1E => Known(Rr(Registers(AddLogical))), // ALR
-        0x5E => Known(Rx(Taking(WordWith(AddLogical)))), // AL
-        0x1F => Known(Rr(Registers(SubtractLogical))), // SLR
-        0x5F => Known(Rx(Taking(WordWith(SubtractLogical)))), // SL
-        0x15 => Known(Rr(Registers(CompareLogical))), // CLR
-        0x55 => Known(Rx(Taking(WordWith(CompareLogical)))), // CL
-        0x95 => Known(Si(CompareByte)), // CLI
-        0xD5 => Known(Ss(CompareField)), // CLC
-        0x14 => Known(Rr(Registers(Bits(And)))), // NR
-        0x54 => Known(Rx(Taking(WordWith(Bits(And))))), // N
-        0x94 => Known(Si(BitsByte(And))), // NI
-        0x16 => Known(Rr(Registers(Bits(Or)))), // OR
-        0x56 => Known(Rx(Taking(WordWith(Bits(Or))))), // O
-        0x96 => Known(Si(BitsByte(Or))), // OI
-        0x17 => Known(Rr(Registers(Bits(Xor)))), // XR
-        0x57 => Known(Rx(Taking(WordWith(Bits(Xor))))), // X
-        0x97 => Known(Si(BitsByte(Xor))), // XI
-        0x91 => Known(Si(TestMask)), // TM
-        0x92 => Known(Si(MoveByte)), // MVI
-        0xD2 => Known(Ss(MoveField)), // MVC
-        0x89 => Known(Rs(ShiftLeft)), // SLL
-        0x88 => Known(Rs(ShiftRight)), // SRL
-        0x07 => Known(Rr(RegisterBranch(OnCondition))), // BCR
-        0x47 => Known(Rx(AddressBranch(OnCondition))), // BC
-        0x05 => Known(Rr(RegisterBranch(AndLink))), // BALR
-        0x45 => Known(Rx(AddressBranch(AndLink))), // BAL
-        0x06 => Known(Rr(RegisterBranch(OnCount))), // BCTR
-        0x46 => Known(Rx(AddressBranch(OnCount))), // BCT
-        0x86 => Known(Rs(BranchHigh)), // BXH
-        0x87 => Known(Rs(BranchLowEqual)), // BXLE
-        0x1C => Known(Rr(PairAndRegister(Multiply))), // MR
-        0x5C => Known(Rx(PairAndWord(Multiply))), // M
-        0x4C => Known(Rx(Taking(HalfWith(LowProduct)))), // MH
-        0x1D => Known(Rr(PairAndRegister(Divide))), // DR
-        0x5D => Known(Rx(PairAndWord(Divide))), // D
-        0x4A => Known(Rx(Taking(HalfWith(Add)))), // AH
-        0x4B => Known(Rx(Taking(HalfWith(Subtract)))), // SH
-        0x49 => Known(Rx(Taking(HalfWith(Compare)))), // CH
-        0x8B => Known(Rs(ShiftSigned(Left))), // SLA
-        0x8A => Known(Rs(ShiftSigned(Right))), // SRA
-        0x8F => Known(Rs(ShiftDouble(Left))), // SLDA
-        0x8E => Known(Rs(ShiftDouble(Right))), // SRDA
-        _ => Unknown,
+        0x18 => Some(Rr(Registers(Load))), // LR
+        0x58 => Some(Rx(Taking(WordWith(Load)))), // L
+        0x48 => Some(Rx(Taking(HalfWith(Load)))), // LH
+        0x12 => Some(Rr(Registers(Test))), // LTR
+        0x13 => Some(Rr(Registers(Complement))), // LCR
+        0x10 => Some(Rr(Registers(Positive))), // LPR
+        0x11 => Some(Rr(Registers(Negative))), // LNR
+        0x98 => Some(Rs(LoadMultiple)), // LM
+        0x50 => Some(Rx(Storing(Word))), // ST
+        0x40 => Some(Rx(Storing(Half))), // STH
+        0x90 => Some(Rs(StoreMultiple)), // STM
+        0x41 => Some(Rx(LoadAddress)), // LA
+        0x43 => Some(Rx(Taking(ByteInserted))), // IC
+        0x42 => Some(Rx(Storing(Byte))), // STC
+        0x1A => Some(Rr(Registers(Add))), // AR
+        0x5A => Some(Rx(Taking(WordWith(Add)))), // A
+        0x1B => Some(Rr(Registers(Subtract))), // SR
+        0x5B => Some(Rx(Taking(WordWith(Subtract)))), // S
+        0x19 => Some(Rr(Registers(Compare))), // CR
+        0x59 => Some(Rx(Taking(WordWith(Compare)))), // C
+        0x1E => Some(Rr(Registers(AddLogical))), // ALR
+        0x5E => Some(Rx(Taking(WordWith(AddLogical)))), // AL
+        0x1F => Some(Rr(Registers(SubtractLogical))), // SLR
+        0x5F => Some(Rx(Taking(WordWith(SubtractLogical)))), // SL
+        0x15 => Some(Rr(Registers(CompareLogical))), // CLR
+        0x55 => Some(Rx(Taking(WordWith(CompareLogical)))), // CL
+        0x95 => Some(Si(CompareByte)), // CLI
+        0xD5 => Some(Ss(CompareField)), // CLC
+        0x14 => Some(Rr(Registers(Bits(And)))), // NR
+        0x54 => Some(Rx(Taking(WordWith(Bits(And))))), // N
+        0x94 => Some(Si(BitsByte(And))), // NI
+        0x16 => Some(Rr(Registers(Bits(Or)))), // OR
+        0x56 => Some(Rx(Taking(WordWith(Bits(Or))))), // O
+        0x96 => Some(Si(BitsByte(Or))), // OI
+        0x17 => Some(Rr(Registers(Bits(Xor)))), // XR
+        0x57 => Some(Rx(Taking(WordWith(Bits(Xor))))), // X
+        0x97 => Some(Si(BitsByte(Xor))), // XI
+        0x91 => Some(Si(TestMask)), // TM
+        0x92 => Some(Si(MoveByte)), // MVI
+        0xD2 => Some(Ss(MoveField)), // MVC
+        0x89 => Some(Rs(ShiftLeft)), // SLL
+        0x88 => Some(Rs(ShiftRight)), // SRL
+        0x07 => Some(Rr(RegisterBranch(OnCondition))), // BCR
+        0x47 => Some(Rx(AddressBranch(OnCondition))), // BC
+        0x05 => Some(Rr(RegisterBranch(AndLink))), // BALR
+        0x45 => Some(Rx(AddressBranch(AndLink))), // BAL
+        0x06 => Some(Rr(RegisterBranch(OnCount))), // BCTR
+        0x46 => Some(Rx(AddressBranch(OnCount))), // BCT
+        0x86 => Some(Rs(BranchHigh)), // BXH
+        0x87 => Some(Rs(BranchLowEqual)), // BXLE
+        0x1C => Some(Rr(PairAndRegister(Multiply))), // MR
+        0x5C => Some(Rx(PairAndWord(Multiply))), // M
+        0x4C => Some(Rx(Taking(HalfWith(LowProduct)))), // MH
+        0x1D => Some(Rr(PairAndRegister(Divide))), // DR
+        0x5D => Some(Rx(PairAndWord(Divide))), // D
+        0x4A => Some(Rx(Taking(HalfWith(Add)))), // AH
+        0x4B => Some(Rx(Taking(HalfWith(Subtract)))), // SH
+        0x49 => Some(Rx(Taking(HalfWith(Compare)))), // CH
+        0x8B => Some(Rs(ShiftSigned(Left))), // SLA
+        0x8A => Some(Rs(ShiftSigned(Right))), // SRA
+        0x8F => Some(Rs(ShiftDouble(Left))), // SLDA
+        0x8E => Some(Rs(ShiftDouble(Right))), // SRDA
+        _ => None,
     }
 }
 

@@ -25,6 +25,7 @@ pub fn name_of(op: u8) -> [u8; 4]
     ensures { result ≡ cell_of op }
 {
     let names = NAMES;
+    // With `usize::from` the computed proof of the grid does not close.
     let i = op as usize * 4;
     [names[i], names[i + 1], names[i + 2], names[i + 3]]
 }

@@ -10,18 +10,17 @@ use lib.Bits.{bit_and}
 use lib.IntN.{ℤ, pos}
 use lib.Signed.{lt_z}
 use lib.ListN.{length, length-set}
+use Rattle.std.specs.Prelude.{Ok, Err}
 use Rattle.words.specs.Pick.{pick, both}
 use Rattle.words.specs.declared.Alu.{Alu}
 use Rattle.words.specs.declared.Alu.TheVariants.{Load, Test, Complement, Positive, Negative, Add, Subtract, Compare, AddLogical, SubtractLogical, CompareLogical, Bits, LowProduct}
 use Rattle.words.specs.declared.Res.{Res}
-use Rattle.words.specs.declared.Paired.{Paired}
-use Rattle.words.specs.declared.Paired.TheVariants.{Value, DivideError}
 use Rattle.words.specs.declared.Direction.{Direction}
 use Rattle.words.specs.declared.Direction.TheVariants.{Left, Right}
 use Rattle.words.specs.Whole.{word_top, double_top, overflows}
 use Rattle.words.specs.Codes.{sign_code, compare_signed, compare_bits, zero_code, mask_code}
 use Rattle.words.specs.Combine.{combine_of, signed_result, carried}
-use Rattle.words.specs.Wide.{pair_of}
+use Rattle.words.specs.Wide.{Paired, pair_of}
 use Rattle.words.specs.SignedShifts.{leftward, rightward, shifted_of}
 use Rattle.pages.specs.declared.Access.{Access}
 use Rattle.pages.specs.declared.Access.TheVariants as access
@@ -218,7 +217,7 @@ ahead_sound : (c : Cpu) (n : ℕ) → Sound c → Sound (onward c n)
 unfolding ahead
 ahead_sound c n h = pc_sound c (ahead c n) (omega arith) h
 
-res_sound : (c : Cpu) (i : ℕ) (r : Res) → r.code < 4 → Sound c → Sound (with_res c i r)
+res_sound : (c : Cpu) (i : ℕ) (r : Res ℕ) → r.code < 4 → Sound c → Sound (with_res c i r)
 res_sound c i r l h = code_sound (with_reg c i r.value) r.code l (reg_sound c i r.value h)
 
 going_sound : (b : Bool) (a : ℕ) (c : Cpu) → a < 16777216 → Sound c → Sound (going b a c)
@@ -262,8 +261,8 @@ spills_ends (suc n) r a c k h =
 module _ (c : Cpu) (h : Sound c) where
   into_ends : (x : Paired) (len r : ℕ) → Ends Sound (into_pair x len r c)
   unfolding Ends into_pair
-  into_ends (Value v) len r = pair_sound (onward c len) r v (ahead_sound c len h)
-  into_ends DivideError len r = eight
+  into_ends (Ok v) len r = pair_sound (onward c len) r v (ahead_sound c len h)
+  into_ends (Err x) len r = eight
 
   pub rr_ends : (x : RrAction) (f : RrFields) → Ends Sound (rr x f c)
   unfolding Ends rr

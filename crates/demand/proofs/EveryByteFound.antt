@@ -6,16 +6,15 @@ use mathlib.Core.Path.{◌≡◌, refl, ◌∙◌, ap}
 use mathlib.Core.Bool.{Bool, true, false}
 use lib.Dec.{eqb, leb, ltb}
 use lib.ListN.{length, length-set}
+use Rattle.std.specs.Prelude.{Ok, Err}
 use Rattle.words.specs.Pick.{pick, both}
 use Rattle.pages.specs.declared.Access.{Access}
 use Rattle.pages.specs.declared.Access.TheVariants.{Fetch, Load, Store}
 use Rattle.pages.specs.declared.Cause.{Cause}
 use Rattle.pages.specs.declared.Cause.TheVariants.{PagingError}
-use Rattle.pages.specs.declared.Look.{Look}
-use Rattle.pages.specs.declared.Look.TheVariants.{At, Refused}
 use Rattle.pages.specs.Word.{bit_u, bit_s, bit_e, bit_m, bits_x, disp_of, page_of, real, word_of, written}
 use Rattle.pages.specs.Tests.{Verdict, fine, bad, tests, six_tests}
-use Rattle.pages.specs.Look.{reach, look_of, test_seven, verdict_of}
+use Rattle.pages.specs.Look.{Look, reach, look_of, test_seven, verdict_of}
 use Rattle.pages.specs.Framed.{Framed, look_in, noted, read_byte, written_at, write_at, write_byte}
 use Rattle.pages.proofs.Marks.{look_quiet, written_quiet}
 use Rattle.machine.specs.Prog.{Prog, done, fail, look, get, put, Ops, keeps, after, interp}
@@ -75,10 +74,10 @@ unfolding write_byte written_at
 wrote_look s a v acc b = go (look_in s Store a)
   where
     go : (l : Look) → look_in (write_at s a v l) acc b ≡ look_in s acc b
-    go (At r k) =
-        ap (λ (n : ℕ). look_of (written_at s.map a) n acc b) (length-set s.mem r v)
+    go (Ok t) =
+        ap (λ (n : ℕ). look_of (written_at s.map a) n acc b) (length-set s.mem t.at v)
         ∙ look_quiet written written_quiet s.map (page_of a) (length s.mem) acc b
-    go (Refused c p) = refl
+    go (Err e) = refl
 
 -- all these are found
 abbrev pub Found : Addresses → Framed → Access → Type 0

@@ -12,11 +12,9 @@ use lib.Seq.{get_or-set_same, get_or-set_other}
 use Rattle.words.specs.Pick.{pick, both}
 use Rattle.pages.specs.declared.Access.{Access}
 use Rattle.pages.specs.declared.Access.TheVariants.{Load, Store}
-use Rattle.pages.specs.declared.Look.{Look}
-use Rattle.pages.specs.declared.Look.TheVariants.{At, Refused}
 use Rattle.pages.specs.Word.{bits_x, size, real, page_of, disp_of, word_of, Open, accessed, written}
 use Rattle.pages.specs.Tests.{Verdict, fine, bad, tests}
-use Rattle.pages.specs.Look.{reach, look_of, test_seven, verdict_of}
+use Rattle.pages.specs.Look.{Look, At, Refused, reach, look_of, test_seven, verdict_of}
 use Rattle.pages.specs.Framed.{Framed, framed_of, look_in, noted, accessed_at, written_at, read_at, read_byte, write_at, write_byte}
 use Rattle.pages.proofs.Marks.{changed, changed_keeps}
 use Rattle.machine.specs.Store.{framed}

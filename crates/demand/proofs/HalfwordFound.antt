@@ -8,9 +8,8 @@ use lib.Dec.{eqb, ltb}
 use lib.ListN.{length}
 use Rattle.words.specs.Pick.{pick, both}
 use Rattle.pages.specs.declared.Access.TheVariants.{Fetch}
-use Rattle.pages.specs.declared.Look.TheVariants.{At}
 use Rattle.pages.specs.Word.{bit_m, bit_h, frame, base, size, real, next, page_of, disp_of, word_of}
-use Rattle.pages.specs.Look.{fewer, reach}
+use Rattle.pages.specs.Look.{At, fewer, reach}
 use Rattle.pages.specs.Framed.{Framed, look_in}
 use Rattle.pages.proofs.LookLaws.{Finds, finds_in}
 use Rattle.pages.proofs.ReachLaws.{reach_behind, reach_page, reach_next, reach_some}

@@ -10,11 +10,10 @@ use lib.Seq.{get_or-set_other}
 use Rattle.pages.specs.declared.Access.{Access}
 use Rattle.pages.specs.declared.Access.TheVariants.{Store}
 use Rattle.pages.specs.declared.Cause.TheVariants.{Addressing}
-use Rattle.pages.specs.declared.Look.TheVariants.{At, Refused}
 use Rattle.words.specs.Pick.{pick}
 use Rattle.pages.specs.Word.{real, page_of, disp_of, word_of, Writable, accessed, written}
 use Rattle.pages.specs.Tests.{Verdict, fine, bad, tests}
-use Rattle.pages.specs.Look.{reach, look_of, test_seven}
+use Rattle.pages.specs.Look.{At, Refused, reach, look_of, test_seven}
 use Rattle.pages.specs.Framed.{Framed, framed_of, accessed_at, written_at, write_at, write_byte}
 use Rattle.machine.specs.Prog.{Prog, Ops, interp}
 use Rattle.machine.specs.Run.{one, run}

@@ -5,18 +5,15 @@ use native.Mathlib.Omega.{arith}
 use mathlib.Core.Path.{◌≡◌, refl, sym, subst}
 use mathlib.Core.Bool.{Bool, true, false}
 use lib.Dec.{eqb}
+use Rattle.std.specs.Prelude.{Ok, Err, Option, Some, None}
 use Rattle.words.specs.Pick.{pick}
-use Rattle.words.specs.declared.Paired.{Paired}
-use Rattle.words.specs.declared.Paired.TheVariants.{Value, DivideError}
 use Rattle.words.specs.Codes.{compare_bits}
-use Rattle.words.specs.Wide.{pair_of}
+use Rattle.words.specs.Wide.{Paired, pair_of}
 use Rattle.pages.specs.declared.Access.{Access}
 use Rattle.pages.specs.declared.Access.TheVariants.{Fetch, Load, Store}
 use Rattle.pages.specs.Word.{next}
 use Rattle.code.specs.declared.Action.{Action}
 use Rattle.code.specs.declared.Action.TheVariants.{Rr, Rx, Rs, Si, Ss}
-use Rattle.code.specs.declared.Found.{Found}
-use Rattle.code.specs.declared.Found.TheVariants.{Known, Unknown}
 use Rattle.code.specs.declared.RrFields.{RrFields}
 use Rattle.code.specs.declared.RrAction.{RrAction}
 use Rattle.code.specs.declared.RrAction.TheVariants.{Registers, RegisterBranch, PairAndRegister}
@@ -190,8 +187,8 @@ module _ (L S : Addresses) where
 
   into_behind : (x : Paired) (len r : ℕ) (c : Cpu) → Behind L S (into_pair x len r c)
   unfolding Behind into_pair
-  into_behind (Value v) len r c = tt
-  into_behind DivideError len r c = tt
+  into_behind (Ok v) len r c = tt
+  into_behind (Err x) len r c = tt
 
 module _ (L S : Addresses) where
   rr_behind : (x : RrAction) (f : RrFields) (c : Cpu) → Behind L S (rr x f c)
@@ -264,10 +261,10 @@ module _ (L S : Addresses) where
       halfword_behind L S (ahead c 2) _
       (λ L' S' h2. halfword_behind L' S' (ahead c 4) _ (λ L'' S'' h3. ss_behind L'' S'' x (ss_of h1 h2 h3) c))
 
-  known_behind : (x : Found) (h1 : ℕ) (c : Cpu) → Behind L S (known x h1 c)
+  known_behind : (x : Option Action) (h1 : ℕ) (c : Cpu) → Behind L S (known x h1 c)
   unfolding Behind
-  known_behind (Known x) h1 c = act_behind x h1 c
-  known_behind Unknown h1 c = tt
+  known_behind (Some x) h1 c = act_behind x h1 c
+  known_behind None h1 c = tt
 
 -- at a step's start nothing is looked up
 pub step_behind : (c : Cpu) → Behind nowhere nowhere (step c)

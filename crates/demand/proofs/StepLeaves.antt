@@ -9,17 +9,15 @@ use mathlib.Core.List.{List, [], ◌∷◌}
 use borrow.Author.Tests.{eqb-false}
 use lib.Dec.{eqb}
 use lib.ListN.{length}
+use Rattle.std.specs.Prelude.{Option, Some, None, Ok, Err}
 use Rattle.words.specs.Pick.{pick, both}
 use Rattle.pages.specs.declared.Access.TheVariants.{Fetch}
-use Rattle.pages.specs.declared.Look.{Look}
-use Rattle.pages.specs.declared.Look.TheVariants.{At, Refused}
 use Rattle.pages.specs.Word.{next}
-use Rattle.pages.specs.Look.{verdict_of}
+use Rattle.pages.specs.Look.{Look, At, verdict_of}
 use Rattle.pages.specs.Framed.{Framed, framed_of, look_in, noted, read_byte}
 use Rattle.pages.proofs.Marks.{accessed_again}
+use Rattle.code.specs.declared.Action.{Action}
 use Rattle.code.specs.declared.Action.TheVariants.{Rr, Rx, Rs, Si, Ss}
-use Rattle.code.specs.declared.Found.{Found}
-use Rattle.code.specs.declared.Found.TheVariants.{Known, Unknown}
 use Rattle.code.specs.Table.{action_of}
 use Rattle.code.specs.Formats.{op_of, rr_of, rx_of, rs_of, si_of, ss_of}
 use Rattle.machine.specs.Prog.{Prog, fail, interp}
@@ -75,25 +73,25 @@ module _ (s : Framed) (a : ℕ) (even : a % 2 ≡ 0) (size : length s.mem % 2 �
     where
       go : (l : Look) → look_in s Fetch a ≡ l
           → Came Sound (marked s (pick (both (is_found l) (is_found (look_in s Fetch (next a)))) (a ∷ up_to_refused s bs) [])) (interp framed (halfword a k) s s)
-      go (Refused c p) e = rw (half_refused framed a k s c (ap verdict_of e)) (caused c, refl)
-      go (At r j) e = rw (second_found s a even size r j e, went_on r j e, ← up_to_blind s a bs) h
+      go (Err f) e = rw (half_refused framed a k s f.cause (ap verdict_of e)) (caused f.cause, refl)
+      go (Ok t) e = rw (second_found s a even size t.at t.reach e, went_on t.at t.reach e, ← up_to_blind s a bs) h
 
 -- the halfwords after the first
-abbrev further : Found → Cpu → List ℕ
-further Unknown c = []
-further (Known (Rr x)) c = []
-further (Known (Rx x)) c = ahead c 2 ∷ []
-further (Known (Rs x)) c = ahead c 2 ∷ []
-further (Known (Si x)) c = ahead c 2 ∷ []
-further (Known (Ss x)) c = ahead c 2 ∷ ahead c 4 ∷ []
+abbrev further : Option Action → Cpu → List ℕ
+further None c = []
+further (Some (Rr x)) c = []
+further (Some (Rx x)) c = ahead c 2 ∷ []
+further (Some (Rs x)) c = ahead c 2 ∷ []
+further (Some (Si x)) c = ahead c 2 ∷ []
+further (Some (Ss x)) c = ahead c 2 ∷ ahead c 4 ∷ []
 
-first_of : (f : Found) (c : Cpu) → halfwords_of f c ≡ c.pc ∷ further f c
-first_of Unknown c = refl
-first_of (Known (Rr x)) c = refl
-first_of (Known (Rx x)) c = refl
-first_of (Known (Rs x)) c = refl
-first_of (Known (Si x)) c = refl
-first_of (Known (Ss x)) c = refl
+first_of : (f : Option Action) (c : Cpu) → halfwords_of f c ≡ c.pc ∷ further f c
+first_of None c = refl
+first_of (Some (Rr x)) c = refl
+first_of (Some (Rx x)) c = refl
+first_of (Some (Rs x)) c = refl
+first_of (Some (Si x)) c = refl
+first_of (Some (Ss x)) c = refl
 
 module _ (c : Cpu) (h : Sound c) (even : c.pc % 2 ≡ 0) where
   ahead_even : (n : ℕ) → n % 2 ≡ 0 → ahead c n % 2 ≡ 0
@@ -108,18 +106,18 @@ module _ (c : Cpu) (h : Sound c) (even : c.pc % 2 ≡ 0) where
   two_halves s size k rest =
       half_came s (ahead c 2) (ahead_even 2 (omega arith)) size k [] (rest (halfword_at s (ahead c 2)))
 
-  known_came : (f : Found) (h1 : ℕ) (s : Framed) → length s.mem % 2 ≡ 0
+  known_came : (f : Option Action) (h1 : ℕ) (s : Framed) → length s.mem % 2 ≡ 0
       → Came Sound (marked s (up_to_refused s (further f c))) (interp framed (known f h1 c) s s)
   unfolding act interp up_to_refused all_accessed
-  known_came Unknown h1 s size = (five, refl)
-  known_came (Known (Rr x)) h1 s size = came framed Sound s (rr x (rr_of h1) c) s (rr_ends c h x (rr_of h1))
-  known_came (Known (Rx x)) h1 s size =
+  known_came None h1 s size = (five, refl)
+  known_came (Some (Rr x)) h1 s size = came framed Sound s (rr x (rr_of h1) c) s (rr_ends c h x (rr_of h1))
+  known_came (Some (Rx x)) h1 s size =
       two_halves s size (λ h2. rx x (rx_of h1 h2) c) (λ h2. came framed Sound _ (rx x (rx_of h1 h2) c) _ (rx_ends c h x (rx_of h1 h2)))
-  known_came (Known (Rs x)) h1 s size =
+  known_came (Some (Rs x)) h1 s size =
       two_halves s size (λ h2. rs x (rs_of h1 h2) c) (λ h2. came framed Sound _ (rs x (rs_of h1 h2) c) _ (rs_ends c h x (rs_of h1 h2)))
-  known_came (Known (Si x)) h1 s size =
+  known_came (Some (Si x)) h1 s size =
       two_halves s size (λ h2. si x (si_of h1 h2) c) (λ h2. came framed Sound _ (si x (si_of h1 h2) c) _ (si_ends c h x (si_of h1 h2)))
-  known_came (Known (Ss x)) h1 s size =
+  known_came (Some (Ss x)) h1 s size =
       half_came s (ahead c 2) (ahead_even 2 (omega arith)) size (λ h2. halfword (ahead c 4) (λ h3. ss x (ss_of h1 h2 h3) c)) (ahead c 4 ∷ [])
       (third (halfword_at s (ahead c 2)) (noted s (ahead c 2)) size)
     where
@@ -133,7 +131,7 @@ pub step_leaves : (c : Cpu) (s : Framed) → Sound c → length s.mem % 2 ≡ 0 
 unfolding step fetched_in interp all_accessed
 step_leaves c s h size = go (eqb (c.pc % 2) 1) refl
   where
-    f : Found
+    f : Option Action
     f = action_of (op_of (halfword_at s c.pc))
 
     go : (b : Bool) → eqb (c.pc % 2) 1 ≡ b

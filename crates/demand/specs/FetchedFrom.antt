@@ -1,14 +1,12 @@
 -- What a refused instruction leaves behind (document 02, E4): G on each page from which a halfword of it was fetched. Said from what was
 -- lent, by the look-ups alone; how a step goes is not needed for it.
-use Rattle.std.specs.Prelude.{ℕ, ◌+◌, ◌*◌, ◌/◌, ◌%◌, Bool, true, false, List, [], ◌∷◌, eqb, take}
+use Rattle.std.specs.Prelude.{Option, Some, None, ℕ, ◌+◌, ◌*◌, ◌/◌, ◌%◌, Bool, true, false, List, [], ◌∷◌, eqb, take, Ok, Err}
 use Rattle.words.specs.Pick.{pick, both}
 use Rattle.pages.specs.declared.Access.TheVariants.{Fetch}
-use Rattle.pages.specs.declared.Look.{Look}
-use Rattle.pages.specs.declared.Look.TheVariants.{At, Refused}
 use Rattle.pages.specs.Word.{next}
+use Rattle.pages.specs.Look.{Look}
 use Rattle.pages.specs.Framed.{Framed, accessed_at, look_in, read_byte}
-use Rattle.code.specs.declared.Found.{Found}
-use Rattle.code.specs.declared.Found.TheVariants.{Known, Unknown}
+use Rattle.code.specs.declared.Action.{Action}
 use Rattle.code.specs.Table.{action_of}
 use Rattle.code.specs.Formats.{op_of, length_of}
 use Rattle.machine.specs.Cpu.{Cpu, ahead}
@@ -16,8 +14,8 @@ use Rattle.machine.specs.Machine.{Given, given, cpu_in, store_in}
 
 -- the halfword at a can be fetched: the look-up finds both its bytes
 abbrev pub is_found : Look → Bool
-is_found (At r k) = true
-is_found (Refused c a) = false
+is_found (Ok s) = true
+is_found (Err e) = false
 
 abbrev pub fetchable : Framed → ℕ → Bool
 fetchable s a = both (is_found (look_in s Fetch a)) (is_found (look_in s Fetch (next a)))
@@ -27,9 +25,9 @@ abbrev pub halfword_at : Framed → ℕ → ℕ
 halfword_at s a = read_byte s a * 256 + read_byte s (next a)
 
 -- the addresses of an instruction's halfwords; of an operation that is not in the set only the first is fetched
-abbrev pub halfwords_of : Found → Cpu → List ℕ
-halfwords_of Unknown c = c.pc ∷ []
-halfwords_of (Known x) c = take (length_of x / 2) (c.pc ∷ ahead c 2 ∷ ahead c 4 ∷ [])
+abbrev pub halfwords_of : Option Action → Cpu → List ℕ
+halfwords_of None c = c.pc ∷ []
+halfwords_of (Some x) c = take (length_of x / 2) (c.pc ∷ ahead c 2 ∷ ahead c 4 ∷ [])
 
 -- of these halfwords, lowest first, as many as are fetched: those before the first that a look-up refuses
 unfoldable pub up_to_refused : Framed → List ℕ → List ℕ

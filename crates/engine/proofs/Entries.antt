@@ -10,17 +10,16 @@ use Rattle.machine.specs.Run.{run}
 use Rattle.machine.specs.Step.{step}
 use Rattle.machine.specs.Machine.{given, outcome, proper, turned_away, outcome_of, ops_for, step_outcome, run_outcome}
 use Rattle.actions.specs.declared.Now.{Now}
-use Rattle.actions.specs.declared.Out.{Out}
-use Rattle.actions.specs.declared.Out.TheVariants.{Done, Stop}
-use Rattle.actions.specs.Answered.{cpu_of, told, doing}
+use Rattle.std.specs.Prelude.{Ok, Err}
+use Rattle.actions.specs.Answered.{Out, cpu_of, told, doing}
 use Rattle.engine.specs.declared.Ran.{Ran}
 use Rattle.engine.specs.Entry.{step_reply, ran_reply, ran_as}
 
 -- a step's answer, told, is its reply and what the lists hold
 step_told : (c : Now) (out : Out) (mem map regs : List ℕ) → outcome (step_reply c out) mem map regs ≡ outcome_of (told out regs c (framed_of mem map))
 unfolding told
-step_told c (Done n) mem map regs = refl
-step_told c (Stop k a) mem map regs = refl
+step_told c (Ok n) mem map regs = refl
+step_told c (Err k) mem map regs = refl
 
 module _ (mem map regs : List ℕ) (pc code mask : ℕ) where
   pub step_fine : (b : Bool) (q : Reply) (out : Out) (mem' map' regs' : List ℕ) → b ≡ proper (given mem map regs pc code mask) → b ≡ true

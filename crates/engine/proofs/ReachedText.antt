@@ -5,14 +5,13 @@ use native.Mathlib.Nat.{add-zero}
 use mathlib.Core.Path.{◌≡◌, refl, sym, ◌∙◌, ap}
 use mathlib.Core.Bool.{Bool, true, false}
 use mathlib.Core.List.{List}
+use Rattle.std.specs.Prelude.{Ok, Err}
 use lib.Dec.{ltb}
 use lib.ListN.{length, get_or}
 use Rattle.pages.specs.declared.Access.TheVariants.{Fetch}
-use Rattle.pages.specs.declared.Cause.{Cause}
-use Rattle.pages.specs.declared.Look.{Look}
-use Rattle.pages.specs.declared.Look.TheVariants.{At, Refused}
+use Rattle.pages.specs.declared.Refusal.{Refusal}
 use Rattle.pages.specs.Word.{page_of, next}
-use Rattle.pages.specs.Look.{look_of}
+use Rattle.pages.specs.Look.{Look, At, look_of}
 use Rattle.pages.specs.Framed.{Framed, framed_of, accessed_at, noted, read_at, read_byte}
 use Rattle.pages.proofs.Marks.{accessed_again}
 use Rattle.pages.proofs.LookLaws.{any_load}
@@ -23,11 +22,11 @@ use Rattle.machine.specs.Store.{framed}
 use Rattle.machine.proofs.MarksLast.{blind, read_noted}
 use Rattle.fields.specs.Direct.{look_field, look_one, read_field, flat}
 use Rattle.fields.proofs.Bridge.{gets_is}
-use Rattle.engine.specs.declared.Fetched.{Fetched}
-use Rattle.engine.specs.declared.Fetched.TheVariants as T
-use Rattle.engine.specs.Entry.{past, halves_of, half_marks, wanted_half, further_text, text, fetching, fetched, stop_of}
+use Rattle.actions.specs.declared.Stop.{Stop}
+use Rattle.actions.specs.Answered.{refusal_of}
+use Rattle.engine.specs.Entry.{past, halves_of, half_marks, wanted_half, further_text, text, fetching, fetched}
 use Rattle.engine.proofs.Halfwords.{half_comes, look_first}
-use Rattle.engine.proofs.Texts.{stop_first}
+use Rattle.actions.proofs.Stops.{handed_on}
 
 -- a read does not see a mark
 field_noted : (s : Framed) (b a n v : ℕ) → read_field (noted s b) a n v ≡ read_field s a n v
@@ -98,16 +97,16 @@ module _ (mem map : List ℕ) (pc r j : ℕ) (low : pc + 6 ≤ 2097152) (fit : p
 
   further_in : (h1 n : ℕ)
       → interp framed (further_text n pc h1) (framed_of mem (accessed_at map pc)) (framed_of mem (accessed_at map pc))
-      ≡ finished (T.Whole h1 (flat mem (r + 2) 2 0) (flat mem (r + 4) 2 0)) (framed_of mem (accessed_at map pc))
+      ≡ finished (record { h1 = h1; h2 = flat mem (r + 2) 2 0; h3 = flat mem (r + 4) 2 0 }) (framed_of mem (accessed_at map pc))
   unfolding interp
   further_in h1 n =
       wanted_in mem (accessed_at map pc) pc r j low fit six_marked (past pc 2) 2 (omega arith) (omega arith)
-      (λ h2. wanted_half (ltb 2 n) (past pc 4) (λ h3. done (T.Whole h1 h2 h3))) (ltb 1 n) (accessed_again map pc pc refl)
+      (λ h2. wanted_half (ltb 2 n) (past pc 4) (λ h3. done (record { h1 = h1; h2 = h2; h3 = h3 }))) (ltb 1 n) (accessed_again map pc pc refl)
       ∙ wanted_in mem (accessed_at map pc) pc r j low fit six_marked (past pc 4) 4 (omega arith) (omega arith)
-      (λ h3. done (T.Whole h1 (flat mem (r + 2) 2 0) h3)) (ltb 2 n) (accessed_again map pc pc refl)
+      (λ h3. done (record { h1 = h1; h2 = flat mem (r + 2) 2 0; h3 = h3 })) (ltb 2 n) (accessed_again map pc pc refl)
 
   text_in : (h1 h2 h3 : ℕ) (map' : List ℕ) → h1 ≡ flat mem r 2 0 → h2 ≡ flat mem (r + 2) 2 0 → h3 ≡ flat mem (r + 4) 2 0
-      → map' ≡ accessed_at map pc → fetched (T.Whole h1 h2 h3) (framed_of mem map') ≡ fetching pc (framed_of mem map)
+      → map' ≡ accessed_at map pc → fetched (Ok (record { h1 = h1; h2 = h2; h3 = h3 })) (framed_of mem map') ≡ fetching pc (framed_of mem map)
   unfolding text
   text_in h1 h2 h3 map' e1 e2 e3 m =
       let z : flat mem (r + 0) 2 0 ≡ h1 = ap (λ (x : ℕ). flat mem x 2 0) (add-zero r) ∙ sym e1 in
@@ -134,14 +133,15 @@ module _ (mem map : List ℕ) (pc r k : ℕ) (found : Look) (e : found ≡ look_
   third_inside = omega (arith, six_inside)
 
   pub text_reached : (h1 h2 h3 : ℕ) (map' : List ℕ) → h1 ≡ flat mem r 2 0 → h2 ≡ flat mem (r + 2) 2 0 → h3 ≡ flat mem (r + 4) 2 0
-      → map' ≡ accessed_at map pc → fetched (T.Whole h1 h2 h3) (framed_of mem map') ≡ fetching pc (framed_of mem map)
+      → map' ≡ accessed_at map pc → fetched (Ok (record { h1 = h1; h2 = h2; h3 = h3 })) (framed_of mem map') ≡ fetching pc (framed_of mem map)
   text_reached =
       text_in mem map pc r k (omega (arith, reach_below map (length mem) Fetch pc r k first)) (omega (arith, reach_fits map (length mem) Fetch pc r k first))
       (λ d l. reach_behind map (length mem) Fetch pc r k first d (omega arith))
 
 -- and where the first byte is refused, the text is
-pub text_refused : (mem map : List ℕ) (pc : ℕ) (found : Look) → found ≡ look_of map (length mem) Fetch pc → (c : Cause) (p : ℕ) → found ≡ Refused c p
-    → (r : Fetched) → r ≡ stop_of found → fetched r (framed_of mem map) ≡ fetching pc (framed_of mem map)
-text_refused mem map pc found e c p f r k =
-    let t = look_first map (length mem) pc found e c p f in
-    stop_first mem map pc found map t.0 t.1 c p r f k
+pub text_refused : (mem map : List ℕ) (pc : ℕ) (found : Look) → found ≡ look_of map (length mem) Fetch pc → (q : Refusal) → found ≡ Err q
+    → (k : Stop) → k ≡ refusal_of q → fetched (Err k) (framed_of mem map) ≡ fetching pc (framed_of mem map)
+unfolding text
+text_refused mem map pc found e q f k g =
+    let t = look_first map (length mem) pc found e q f in
+    rw g (handed_on q.cause q.place (framed_of mem map) ∙ sym (half_comes mem map pc (λ h1. further_text (halves_of h1) pc h1) ∙ rw (← t.0, f, ← t.1)))

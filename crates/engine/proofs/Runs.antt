@@ -13,9 +13,9 @@ use Rattle.machine.specs.Step.{step}
 use Rattle.machine.specs.Machine.{ops_for}
 use Rattle.fields.proofs.ByteLoops.{pred_suc}
 use Rattle.actions.specs.declared.Now.{Now}
-use Rattle.actions.specs.declared.Out.{Out}
-use Rattle.actions.specs.declared.Out.TheVariants.{Done, Stop}
-use Rattle.actions.specs.Answered.{cpu_of, told, doing}
+use Rattle.std.specs.Prelude.{Some, None, Ok, Err}
+use Rattle.actions.specs.declared.Stop.{Stop}
+use Rattle.actions.specs.Answered.{Out, number, place, cpu_of, told, doing}
 use Rattle.engine.specs.Entry.{ran_as, adds}
 
 -- steps counted: none, one, and those of a run that goes on
@@ -65,7 +65,7 @@ was_refused c (refused n a t) go r z e = e
 -- a turn of a run of which so many steps are left
 module _ (regs mem map : List ℕ) (at : Now) (budget left : ℕ) (h : 0 < left) where
   pub run_on : left ≤ budget → (out : Out) (next : Now) (regs' mem' map' : List ℕ)
-      → told out regs' at (framed_of mem' map') ≡ doing step regs at (framed_of mem map) → out ≡ Done next
+      → told out regs' at (framed_of mem' map') ≡ doing step regs at (framed_of mem map) → out ≡ Ok next
       → adds (budget - left) (run ops_for step left (cpu_of regs at) (framed_of mem map))
       ≡ adds (budget - (left - 1)) (run ops_for step (left - 1) (cpu_of regs' next) (framed_of mem' map'))
   unfolding run told
@@ -87,25 +87,25 @@ module _ (regs mem map : List ℕ) (at : Now) (budget left : ℕ) (h : 0 < left)
           ∙ adds_more (budget - left) (run ops_for step b (cpu_of regs' next) (framed_of mem' map'))
           ∙ ap (λ (b' : ℕ). adds (budget - left + 1) (run ops_for step b' (cpu_of regs' next) (framed_of mem' map'))) (sym (pred_suc b))
 
-  pub run_stop : (out : Out) (number place : ℕ) (regs' mem' map' : List ℕ)
-      → told out regs' at (framed_of mem' map') ≡ doing step regs at (framed_of mem map) → out ≡ Stop number place
-      → ran_as (record { number = number; place = place; count = budget - left; now = at }) regs' (framed_of mem' map')
+  pub run_stop : (out : Out) (stop : Stop) (regs' mem' map' : List ℕ)
+      → told out regs' at (framed_of mem' map') ≡ doing step regs at (framed_of mem map) → out ≡ Err stop
+      → ran_as (record { stopped = Some stop; count = budget - left; now = at }) regs' (framed_of mem' map')
       ≡ adds (budget - left) (run ops_for step left (cpu_of regs at) (framed_of mem map))
   unfolding run told
-  run_stop out number place regs' mem' map' t o = go left h
+  run_stop out stop regs' mem' map' t o = go left h
     where
       r : Result Cpu Framed
-      r = record { stop = number; place = place; count = 0; cpu = cpu_of regs' at; held = framed_of mem' map' }
+      r = record { stop = number stop; place = place stop; count = 0; cpu = cpu_of regs' at; held = framed_of mem' map' }
 
       x : r ≡ one (cpu_of regs at) (interp framed (step (cpu_of regs at)) (framed_of mem map) (framed_of mem map))
       x = ap (λ (y : Out). told y regs' at (framed_of mem' map')) (sym o) ∙ t
 
-      plus : ran_as (record { number = number; place = place; count = budget - left; now = at }) regs' (framed_of mem' map') ≡ adds (budget - left) r
+      plus : ran_as (record { stopped = Some stop; count = budget - left; now = at }) regs' (framed_of mem' map') ≡ adds (budget - left) r
       plus =
-          λ i. record { stop = number; place = place; count = sym (add-zero (budget - left)) i; cpu = cpu_of regs' at; held = framed_of mem' map' }
+          λ i. record { stop = number stop; place = place stop; count = sym (add-zero (budget - left)) i; cpu = cpu_of regs' at; held = framed_of mem' map' }
 
       go : (l : ℕ) → 0 < l
-          → ran_as (record { number = number; place = place; count = budget - left; now = at }) regs' (framed_of mem' map')
+          → ran_as (record { stopped = Some stop; count = budget - left; now = at }) regs' (framed_of mem' map')
           ≡ adds (budget - left) (run ops_for step l (cpu_of regs at) (framed_of mem map))
       go zero k = absurd (omega arith)
       go (suc b) k =
@@ -114,7 +114,7 @@ module _ (regs mem map : List ℕ) (at : Now) (budget left : ℕ) (h : 0 < left)
           (was_refused (cpu_of regs at) (interp framed (step (cpu_of regs at)) (framed_of mem map) (framed_of mem map)) (λ c' s'. run ops_for step b c' s') r refl x)
 
 pub run_spent : (regs mem map : List ℕ) (at : Now) (budget left : ℕ) → left ≤ 0
-    → ran_as (record { number = 7; place = 0; count = budget - left; now = at }) regs (framed_of mem map)
+    → ran_as (record { stopped = None; count = budget - left; now = at }) regs (framed_of mem map)
     ≡ adds (budget - left) (run ops_for step left (cpu_of regs at) (framed_of mem map))
 unfolding run
 run_spent regs mem map at budget left h =

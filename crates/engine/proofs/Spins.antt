@@ -7,8 +7,7 @@ use mathlib.Core.List.{List}
 use borrow.Author.Tests.{lt-ltb, le-leb}
 use lib.ListN.{length}
 use Rattle.pages.specs.declared.Access.TheVariants.{Fetch}
-use Rattle.pages.specs.declared.Look.TheVariants.{At}
-use Rattle.pages.specs.Look.{look_of}
+use Rattle.pages.specs.Look.{At, look_of}
 use Rattle.pages.specs.Framed.{framed_of}
 use Rattle.pages.proofs.ReachLaws.{reach_inside, reach_below}
 use Rattle.fields.specs.Direct.{flat}
@@ -16,14 +15,14 @@ use Rattle.machine.specs.Run.{run}
 use Rattle.machine.specs.Step.{step}
 use Rattle.machine.specs.Machine.{ops_for}
 use Rattle.actions.specs.declared.Now.{Now}
-use Rattle.actions.specs.declared.Out.TheVariants.{Done}
+use Rattle.std.specs.Prelude.{Ok}
 use Rattle.actions.specs.Answered.{cpu_of, told, doing}
 use Rattle.actions.specs.Whole.{whole}
 use Rattle.quick.specs.declared.Window.{Window}
 use Rattle.quick.specs.declared.Turn.{Turn}
 use Rattle.quick.specs.declared.Turn.TheVariants.{On, Away, Undone}
-use Rattle.quick.specs.Turns.{counter_at, now_at, Stands, Placed, Same, Comes, Turned}
-use Rattle.engine.specs.declared.Fetched.TheVariants as T
+use Rattle.quick.specs.Places.{counter_at, now_at, Stands, Placed}
+use Rattle.quick.specs.Turns.{Same, Comes, Turned}
 use Rattle.engine.specs.declared.Spun.{Spun}
 use Rattle.engine.specs.Entry.{Ready, inside, adds, Went}
 use Rattle.engine.proofs.Texts.{step_whole}
@@ -68,8 +67,8 @@ module _ (w : Window) (mem map : List ℕ) (at : ℕ) (l : Lies w map (length me
   low : counter_at w at + 6 ≤ 2097152
   low = omega (arith, six, reach_below map (length mem) Fetch (counter_at w at) at room found)
 
-  pub here : (text code mask : ℕ) → Placed (record { window = w; at = at; text = text; code = code; mask = mask })
-  here text code mask =
+  pub here : Placed w at
+  here =
       record {
         stands = l.stands;
         near = omega (arith, low);
@@ -79,14 +78,14 @@ module _ (w : Window) (mem map : List ℕ) (at : ℕ) (l : Lies w map (length me
   -- what was done is the step
   module _ (text code mask : ℕ) (e : text ≡ flat mem at 2 0) (n : Now) (regs regs' mem' map' : List ℕ) where
     turn_steps : Comes (whole text (flat mem (at + 2) 2 0) (flat mem (at + 4) 2 0)) (now_at w at code mask) n regs mem map regs' mem' map'
-        → told (Done n) regs' (now_at w at code mask) (framed_of mem' map') ≡ doing step regs (now_at w at code mask) (framed_of mem map)
+        → told (Ok n) regs' (now_at w at code mask) (framed_of mem' map') ≡ doing step regs (now_at w at code mask) (framed_of mem map)
     turn_steps =
         step_whole regs (now_at w at code mask) mem map (λ o. omega (arith, o, l.stands.even))
-        (T.Whole text (flat mem (at + 2) 2 0) (flat mem (at + 4) 2 0)) map
+        (Ok (record { h1 = text; h2 = flat mem (at + 2) 2 0; h3 = flat mem (at + 4) 2 0 })) map
         (text_reached mem map (counter_at w at) at room (At at room) (sym found) refl six text (flat mem (at + 2) 2 0) (flat mem (at + 4) 2 0) map e refl refl
         (window_marked w mem map l.ready (counter_at w at) true is_inside refl))
-        text (flat mem (at + 2) 2 0) (flat mem (at + 4) 2 0) refl
-        (told (Done n) regs' (now_at w at code mask) (framed_of mem' map'))
+        (record { h1 = text; h2 = flat mem (at + 2) 2 0; h3 = flat mem (at + 4) 2 0 }) refl
+        (told (Ok n) regs' (now_at w at code mask) (framed_of mem' map'))
 
 -- what the loop keeps: the steps so far and the run that is left, the lists' lengths, and a place in the window
 pub record Spins (w : Window) (budget mask at₀ code₀ : ℕ) (regs₀ mem₀ map₀ regs mem map : List ℕ) (at code left : ℕ) : Type 0 where
@@ -101,8 +100,8 @@ pub record Spins (w : Window) (budget mask at₀ code₀ : ℕ) (regs₀ mem₀ 
 -- a turn: the step that was done and the run from there on, or nothing
 module _ (w : Window) (budget mask at₀ code₀ : ℕ) (regs₀ mem₀ map₀ regs mem map : List ℕ) (at code left : ℕ)
     (s : Spins w budget mask at₀ code₀ regs₀ mem₀ map₀ regs mem map at code left) (some : 0 < left) (text : ℕ) (e : text ≡ flat mem at 2 0)
-    (turn : Turn) (regs' mem' map' : List ℕ)
-    (t : Turned turn (record { window = w; at = at; text = text; code = code; mask = mask }) (whole text (flat mem (at + 2) 2 0) (flat mem (at + 4) 2 0)) regs mem map regs' mem' map') where
+    (turn : Turn) (regs' mem' map' : List ℕ) (placed : Placed w at)
+    (t : Turned turn (record { window = w; at = at; text = text; code = code; mask = mask; placed = placed }) (whole text (flat mem (at + 2) 2 0) (flat mem (at + 4) 2 0)) regs mem map regs' mem' map') where
   abbrev DoneAt : Now → Type 0
   DoneAt n = Comes (whole text (flat mem (at + 2) 2 0) (flat mem (at + 4) 2 0)) (now_at w at code mask) n regs mem map regs' mem' map'
 
@@ -114,7 +113,7 @@ module _ (w : Window) (budget mask at₀ code₀ : ℕ) (regs₀ mem₀ map₀ r
   one_fewer_lem : (n : Now) → DoneAt n → LeftAt (left - 1) n
   one_fewer_lem n d =
       s.so_far
-      ∙ run_on regs mem map (now_at w at code mask) budget left some s.most (Done n) n regs' mem' map'
+      ∙ run_on regs mem map (now_at w at code mask) budget left some s.most (Ok n) n regs' mem' map'
       (turn_steps w mem map at s.lies text code mask e n regs regs' mem' map' d)
       refl
 
@@ -141,7 +140,7 @@ module _ (w : Window) (budget mask at₀ code₀ : ℕ) (regs₀ mem₀ map₀ r
           lies =
               record {
                 ready =
-                    ready_after w mem map s.lies.ready regs (now_at w at code mask) (Done (now_at w a k mask)) (now_at w a k mask) regs' mem' map'
+                    ready_after w mem map s.lies.ready regs (now_at w at code mask) (Ok (now_at w a k mask)) (now_at w a k mask) regs' mem' map'
                     (turn_steps w mem map at s.lies text code mask e (now_at w a k mask) regs regs' mem' map' on.0)
                     refl
                     lm;
@@ -158,7 +157,7 @@ module _ (w : Window) (budget mask at₀ code₀ : ℕ) (regs₀ mem₀ map₀ r
   unfolding Turned
   undone_left q k o = s.so_far ∙ rw (← u.1.0, ← u.1.1.0, ← u.1.1.1, ← u.0.counter, ← u.0.still)
     where
-      u : Same (record { window = w; at = at; text = text; code = code; mask = mask }) q k × ((regs' ≡ regs) × ((mem' ≡ mem) × (map' ≡ map)))
+      u : Same (record { window = w; at = at; text = text; code = code; mask = mask; placed = placed }) q k × ((regs' ≡ regs) × ((mem' ≡ mem) × (map' ≡ map)))
       u = rw o at t
 
 -- nothing done

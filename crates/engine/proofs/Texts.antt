@@ -1,14 +1,13 @@
 -- A step by its text: the halfwords, as they are fetched one after the other, and then the action on them.
 use Prim.Native.Nat.{ℕ, ◌%◌}
 use mathlib.Core.Path.{◌≡◌, refl, sym, ◌∙◌, ap}
+use mathlib.Core.Bool.{Bool, true}
 use mathlib.Core.List.{List}
+use Rattle.std.specs.Prelude.{Option, Some, None, Ok, Err}
+use Rattle.std.specs.declared.result.Result as rust
 use borrow.Author.Tests.{eq-eqb, ne_eqb}
 use lib.Dec.{ltb}
-use lib.ListN.{length}
-use Rattle.pages.specs.declared.Access.TheVariants.{Fetch}
-use Rattle.pages.specs.declared.Cause.{Cause}
-use Rattle.pages.specs.declared.Look.{Look}
-use Rattle.pages.specs.declared.Look.TheVariants.{At, Refused}
+use Rattle.pages.specs.declared.Refusal.{Refusal}
 use Rattle.pages.specs.Tests.{number_of}
 use Rattle.pages.specs.Framed.{Framed, framed_of}
 use Rattle.machine.specs.Prog.{Prog, done, Answer, refused, interp}
@@ -22,51 +21,49 @@ use Rattle.machine.specs.Ss.{ss}
 use Rattle.machine.specs.Fields.{gets, halfword}
 use Rattle.machine.specs.Step.{step, known, act}
 use Rattle.machine.proofs.Fetches.{then_on}
+use Rattle.code.specs.declared.Action.{Action}
 use Rattle.code.specs.declared.Action.TheVariants.{Rr, Rx, Rs, Si, Ss}
-use Rattle.code.specs.declared.Found.{Found}
-use Rattle.code.specs.declared.Found.TheVariants.{Known, Unknown}
 use Rattle.code.specs.Table.{action_of}
 use Rattle.code.specs.Formats.{op_of, rx_of, rs_of, si_of, ss_of}
-use Rattle.fields.specs.Direct.{look_one, read_field}
 use Rattle.actions.specs.declared.Now.{Now}
-use Rattle.actions.specs.declared.Out.TheVariants.{Stop}
-use Rattle.actions.specs.Answered.{cpu_of, told, doing}
+use Rattle.actions.specs.declared.Stop.{Stop}
+use Rattle.actions.specs.declared.Stop.TheVariants.{Boundary, Unknown}
+use Rattle.actions.specs.Answered.{number, place, cpu_of, told, doing, refusal_of}
+use Rattle.actions.proofs.Stops.{handed_on}
 use Rattle.actions.specs.Whole.{act_whole, whole}
-use Rattle.engine.specs.declared.Fetched.{Fetched}
-use Rattle.engine.specs.declared.Fetched.TheVariants as T
-use Rattle.engine.specs.Entry.{past, halves, halves_of, half_marks, look_wanted, wanted_marks, wanted_half, further_text, text, fetching, fetched, stop_of}
-use Rattle.engine.proofs.Halfwords.{from_there, half_comes, wanted_comes, half_more}
+use Rattle.engine.specs.declared.Text.{Text}
+use Rattle.engine.specs.Entry.{Fetched, past, halves, halves_of, wanted_half, halving, halved, further_text, text, fetching, fetched}
+use Rattle.engine.proofs.Halfwords.{wanted_then, half_more}
 
 -- what an instruction comes to, by its text
-abbrev by_text : Cpu → Fetched → Framed → Answer Cpu Framed
-by_text c (T.Whole h1 h2 h3) s = interp framed (whole h1 h2 h3 c) s s
-by_text c (T.Stop n a) s = refused n a s
+abbrev by_text : Cpu → Text → Framed → Answer Cpu Framed
+by_text c t s = interp framed (whole t.h1 t.h2 t.h3 c) s s
 
-module _ (c : Cpu) (h1 : ℕ) (f : Found) (names : f ≡ action_of (op_of h1)) where
+module _ (c : Cpu) (h1 : ℕ) (f : Option Action) (names : f ≡ action_of (op_of h1)) where
   -- the first halfword names the operation
-  acts : (h2 h3 : ℕ) (s : Framed) → interp framed (act_whole f h1 h2 h3 c) s s ≡ by_text c (T.Whole h1 h2 h3) s
+  acts : (h2 h3 : ℕ) (s : Framed) → interp framed (act_whole f h1 h2 h3 c) s s ≡ by_text c (record { h1 = h1; h2 = h2; h3 = h3 }) s
   unfolding whole
-  acts h2 h3 s = ap (λ (g : Found). interp framed (act_whole g h1 h2 h3 c) s s) names
+  acts h2 h3 s = ap (λ (g : Option Action). interp framed (act_whole g h1 h2 h3 c) s s) names
 
 module _ (c : Cpu) (h1 : ℕ) where
   -- an operation of four bytes: its second halfword; the third is read and not looked at
-  two_halves : (k : ℕ → Prog Cpu) → ((h2 h3 : ℕ) (s : Framed) → interp framed (k h2) s s ≡ by_text c (T.Whole h1 h2 h3) s) → (s : Framed)
+  two_halves : (k : ℕ → Prog Cpu) → ((h2 h3 : ℕ) (s : Framed) → interp framed (k h2) s s ≡ by_text c (record { h1 = h1; h2 = h2; h3 = h3 }) s) → (s : Framed)
       → interp framed (halfword (past c.pc 2) k) s s ≡ then_on (interp framed (further_text 2 c.pc h1) s s) (by_text c)
   unfolding gets interp
   two_halves k e =
-      half_more (past c.pc 2) (λ h2. gets (past c.pc 4) 2 0 (λ h3. done (T.Whole h1 h2 h3))) k (by_text c) (λ h2 t. e h2 _ t)
+      half_more (past c.pc 2) (λ h2. gets (past c.pc 4) 2 0 (λ h3. done (record { h1 = h1; h2 = h2; h3 = h3 }))) k (by_text c) (λ h2 t. e h2 _ t)
 
-  known_text : (f : Found) → f ≡ action_of (op_of h1) → (s : Framed)
+  known_text : (f : Option Action) → f ≡ action_of (op_of h1) → (s : Framed)
       → interp framed (known f h1 c) s s ≡ then_on (interp framed (further_text (halves f) c.pc h1) s s) (by_text c)
   unfolding act ahead gets interp
-  known_text Unknown e s = acts c h1 Unknown e _ _ s
-  known_text (Known (Rr x)) e s = acts c h1 (Known (Rr x)) e _ _ s
-  known_text (Known (Rx x)) e s = two_halves (λ h2. rx x (rx_of h1 h2) c) (acts c h1 (Known (Rx x)) e) s
-  known_text (Known (Rs x)) e s = two_halves (λ h2. rs x (rs_of h1 h2) c) (acts c h1 (Known (Rs x)) e) s
-  known_text (Known (Si x)) e s = two_halves (λ h2. si x (si_of h1 h2) c) (acts c h1 (Known (Si x)) e) s
-  known_text (Known (Ss x)) e s =
-      half_more (past c.pc 2) (λ h2. halfword (past c.pc 4) (λ h3. done (T.Whole h1 h2 h3))) (λ h2. halfword (past c.pc 4) (λ h3. ss x (ss_of h1 h2 h3) c)) (by_text c)
-      (λ h2. half_more (past c.pc 4) (λ h3. done (T.Whole h1 h2 h3)) (λ h3. ss x (ss_of h1 h2 h3) c) (by_text c) (λ h3 t. acts c h1 (Known (Ss x)) e h2 h3 t))
+  known_text None e s = acts c h1 None e _ _ s
+  known_text (Some (Rr x)) e s = acts c h1 (Some (Rr x)) e _ _ s
+  known_text (Some (Rx x)) e s = two_halves (λ h2. rx x (rx_of h1 h2) c) (acts c h1 (Some (Rx x)) e) s
+  known_text (Some (Rs x)) e s = two_halves (λ h2. rs x (rs_of h1 h2) c) (acts c h1 (Some (Rs x)) e) s
+  known_text (Some (Si x)) e s = two_halves (λ h2. si x (si_of h1 h2) c) (acts c h1 (Some (Si x)) e) s
+  known_text (Some (Ss x)) e s =
+      half_more (past c.pc 2) (λ h2. halfword (past c.pc 4) (λ h3. done (record { h1 = h1; h2 = h2; h3 = h3 }))) (λ h2. halfword (past c.pc 4) (λ h3. ss x (ss_of h1 h2 h3) c)) (by_text c)
+      (λ h2. half_more (past c.pc 4) (λ h3. done (record { h1 = h1; h2 = h2; h3 = h3 })) (λ h3. ss x (ss_of h1 h2 h3) c) (by_text c) (λ h3 t. acts c h1 (Some (Ss x)) e h2 h3 t))
       s
 
 step_text : (c : Cpu) → (c.pc % 2 ≡ 1 → ⊥) → (s : Framed) → interp framed (step c) s s ≡ then_on (fetching c.pc s) (by_text c)
@@ -79,7 +76,7 @@ step_text c h s =
 
 -- a step, by its way out; map' has the marks of the fetch
 module _ (regs : List ℕ) (c : Now) (mem map : List ℕ) where
-  pub step_odd : c.pc % 2 ≡ 1 → told (Stop 2 c.pc) regs c (framed_of mem map) ≡ doing step regs c (framed_of mem map)
+  pub step_odd : c.pc % 2 ≡ 1 → told (Err (Boundary c.pc)) regs c (framed_of mem map) ≡ doing step regs c (framed_of mem map)
   unfolding step told interp
   step_odd h = rw (eq-eqb (c.pc % 2) 1 h)
 
@@ -88,65 +85,64 @@ module _ (regs : List ℕ) (c : Now) (mem map : List ℕ) where
         → one (cpu_of regs c) x ≡ doing step regs c (framed_of mem map)
     comes x k =
         ap (one (cpu_of regs c))
-        (k ∙ ap (λ (y : Answer Fetched Framed). then_on y (by_text (cpu_of regs c))) e ∙ sym (step_text (cpu_of regs c) h (framed_of mem map)))
+        (k ∙ ap (λ (y : Answer Text Framed). then_on y (by_text (cpu_of regs c))) e ∙ sym (step_text (cpu_of regs c) h (framed_of mem map)))
 
-    pub step_stop : (k a : ℕ) → r ≡ T.Stop k a → told (Stop k a) regs c (framed_of mem map') ≡ doing step regs c (framed_of mem map)
+    pub step_stop : (k : Stop) → r ≡ Err k → told (Err k) regs c (framed_of mem map') ≡ doing step regs c (framed_of mem map)
     unfolding told
-    step_stop k a t = comes (refused k a (framed_of mem map')) (rw t)
+    step_stop k t = comes (refused (number k) (place k) (framed_of mem map')) (rw t)
 
-    pub step_whole : (h1 h2 h3 : ℕ) → r ≡ T.Whole h1 h2 h3 → (x : Result Cpu Framed) → x ≡ doing (whole h1 h2 h3) regs c (framed_of mem map')
+    pub step_whole : (text : Text) → r ≡ Ok text → (x : Result Cpu Framed) → x ≡ doing (whole text.h1 text.h2 text.h3) regs c (framed_of mem map')
         → x ≡ doing step regs c (framed_of mem map)
-    step_whole h1 h2 h3 t x d = d ∙ comes (interp framed (whole h1 h2 h3 (cpu_of regs c)) (framed_of mem map') (framed_of mem map')) (rw t)
+    step_whole text t x d = d ∙ comes (by_text (cpu_of regs c) text (framed_of mem map')) (rw t)
 
 -- an operation that is not known
-pub unknown_stop : (regs : List ℕ) (c : Now) (mem map : List ℕ) (h1 h2 h3 : ℕ) (found : Found) → found ≡ action_of (op_of h1) → found ≡ Unknown
-    → told (Stop 5 c.pc) regs c (framed_of mem map) ≡ doing (whole h1 h2 h3) regs c (framed_of mem map)
+pub unknown_stop : (regs : List ℕ) (c : Now) (mem map : List ℕ) (h1 h2 h3 : ℕ) (found : Option Action) → found ≡ action_of (op_of h1) → found ≡ None
+    → told (Err (Unknown c.pc)) regs c (framed_of mem map) ≡ doing (whole h1 h2 h3) regs c (framed_of mem map)
 unfolding whole told interp
 unknown_stop regs c mem map h1 h2 h3 found e u = rw (← e, u)
 
--- a text by its look-ups, one after the other: refused at one of them, or whole
-stopped : (mem map : List ℕ) (l : Look) (d : Cause) (b : ℕ) (r : Fetched) (x : Answer Fetched Framed) → l ≡ Refused d b → r ≡ stop_of l
-    → x ≡ refused (number_of d) b (framed_of mem map) → fetched r (framed_of mem map) ≡ x
-stopped mem map l d b r x e k h = rw (k, e) (sym h)
-
 -- what follows the second halfword
-abbrev third_text : ℕ → ℕ → ℕ → ℕ → Prog Fetched
-third_text n last h1 h2 = wanted_half (ltb 2 n) last (λ h3. done (T.Whole h1 h2 h3))
+abbrev third_text : ℕ → ℕ → ℕ → ℕ → Prog Text
+third_text n last h1 h2 = wanted_half (ltb 2 n) last (λ h3. done (record { h1 = h1; h2 = h2; h3 = h3 }))
 
-module _ (mem map : List ℕ) (pc : ℕ) (first : Look) (map1 : List ℕ) (e1 : first ≡ look_one map (length mem) Fetch pc 2) (m1 : map1 ≡ half_marks map (length mem) pc) where
-  from_first : fetching pc (framed_of mem map) ≡ from_there first pc (λ h1. further_text (halves_of h1) pc h1) (framed_of mem map1)
+-- a halfword that is fetched next, as the code answered it
+then_half : {R : Type 0} (b : Bool) (a : ℕ) (k : ℕ → Prog R) (s t : Framed) (r : rust.Result ℕ Refusal) → halved r t ≡ halving b a s
+    → interp framed (wanted_half b a k) s s ≡ then_on (halved r t) (λ h u. interp framed (k h) u u)
+then_half b a k s t r e = wanted_then b a k s ∙ ap (λ (x : Answer ℕ Framed). then_on x (λ h u. interp framed (k h) u u)) (sym e)
+
+-- a text by its halfwords, one after the other: refused at one of them, or whole
+stopped : (mem map : List ℕ) (q : Refusal) (k : Stop) (x : Answer Text Framed) → k ≡ refusal_of q → x ≡ refused (number_of q.cause) q.place (framed_of mem map)
+    → fetched (Err k) (framed_of mem map) ≡ x
+stopped mem map q k x f h = rw f (handed_on q.cause q.place (framed_of mem map) ∙ sym h)
+
+module _ (mem map : List ℕ) (pc : ℕ) (first : rust.Result ℕ Refusal) (map1 : List ℕ) (e1 : halved first (framed_of mem map1) ≡ halving true pc (framed_of mem map)) where
+  from_first : fetching pc (framed_of mem map) ≡ then_on (halved first (framed_of mem map1)) (λ h1 t. interp framed (further_text (halves_of h1) pc h1) t t)
   unfolding text
-  from_first = half_comes mem map pc (λ h1. further_text (halves_of h1) pc h1) ∙ rw (← e1, ← m1)
+  from_first = then_half true pc (λ h1. further_text (halves_of h1) pc h1) (framed_of mem map) (framed_of mem map1) first e1
 
-  pub stop_first : (d : Cause) (b : ℕ) (r : Fetched) → first ≡ Refused d b → r ≡ stop_of first
-      → fetched r (framed_of mem map1) ≡ fetching pc (framed_of mem map)
-  stop_first d b r f k = stopped mem map1 first d b r _ f k (from_first ∙ rw f)
+  pub stop_first : (q : Refusal) (k : Stop) → first ≡ Err q → k ≡ refusal_of q → fetched (Err k) (framed_of mem map1) ≡ fetching pc (framed_of mem map)
+  stop_first q k f g = stopped mem map1 q k _ g (from_first ∙ rw f)
 
-  module _ (x i : ℕ) (f1 : first ≡ At x i) (h1 n : ℕ) (eh : h1 ≡ read_field (framed_of mem map1) pc 2 0) (en : n ≡ halves_of h1)
-      (on : ℕ) (eo : on ≡ past pc 2) (second : Look) (map2 : List ℕ)
-      (e2 : second ≡ look_wanted (ltb 1 n) map1 (length mem) on) (m2 : map2 ≡ wanted_marks (ltb 1 n) map1 (length mem) on) where
-    from_second : fetching pc (framed_of mem map) ≡ from_there second on (third_text n (past pc 4) h1) (framed_of mem map2)
+  module _ (h1 : ℕ) (f1 : first ≡ Ok h1) (n : ℕ) (en : n ≡ halves_of h1) (on : ℕ) (eo : on ≡ past pc 2) (second : rust.Result ℕ Refusal) (map2 : List ℕ)
+      (e2 : halved second (framed_of mem map2) ≡ halving (ltb 1 n) on (framed_of mem map1)) where
+    from_second : fetching pc (framed_of mem map) ≡ then_on (halved second (framed_of mem map2)) (λ h2 t. interp framed (third_text n (past pc 4) h1 h2) t t)
     from_second =
         from_first
-        ∙ rw (f1, ← eh, ← en, ← eo) (wanted_comes mem map1 on (third_text n (past pc 4) h1) (ltb 1 n) ∙ rw (← e2, ← m2))
+        ∙ rw (f1, ← en, ← eo) (then_half (ltb 1 n) on (third_text n (past pc 4) h1) (framed_of mem map1) (framed_of mem map2) second e2)
 
-    pub stop_second : (d : Cause) (b : ℕ) (r : Fetched) → second ≡ Refused d b → r ≡ stop_of second
-        → fetched r (framed_of mem map2) ≡ fetching pc (framed_of mem map)
-    stop_second d b r f k = stopped mem map2 second d b r _ f k (from_second ∙ rw f)
+    pub stop_second : (q : Refusal) (k : Stop) → second ≡ Err q → k ≡ refusal_of q → fetched (Err k) (framed_of mem map2) ≡ fetching pc (framed_of mem map)
+    stop_second q k f g = stopped mem map2 q k _ g (from_second ∙ rw f)
 
-    module _ (y j : ℕ) (f2 : second ≡ At y j) (h2 : ℕ) (eh2 : h2 ≡ read_field (framed_of mem map2) on 2 0)
-        (last : ℕ) (el : last ≡ past pc 4) (third : Look) (map3 : List ℕ)
-        (e3 : third ≡ look_wanted (ltb 2 n) map2 (length mem) last) (m3 : map3 ≡ wanted_marks (ltb 2 n) map2 (length mem) last) where
-      from_third : fetching pc (framed_of mem map) ≡ from_there third last (λ h3. done (T.Whole h1 h2 h3)) (framed_of mem map3)
+    module _ (h2 : ℕ) (f2 : second ≡ Ok h2) (last : ℕ) (el : last ≡ past pc 4) (third : rust.Result ℕ Refusal) (map3 : List ℕ)
+        (e3 : halved third (framed_of mem map3) ≡ halving (ltb 2 n) last (framed_of mem map2)) where
+      from_third : fetching pc (framed_of mem map) ≡ then_on (halved third (framed_of mem map3)) (λ h3 t. interp framed (done (record { h1 = h1; h2 = h2; h3 = h3 })) t t)
       from_third =
           from_second
-          ∙ rw (f2, ← eh2, ← el) (wanted_comes mem map2 last (λ h3. done (T.Whole h1 h2 h3)) (ltb 2 n) ∙ rw (← e3, ← m3))
+          ∙ rw (f2, ← el) (then_half (ltb 2 n) last (λ h3. done (record { h1 = h1; h2 = h2; h3 = h3 })) (framed_of mem map2) (framed_of mem map3) third e3)
 
-      pub stop_third : (d : Cause) (b : ℕ) (r : Fetched) → third ≡ Refused d b → r ≡ stop_of third
-          → fetched r (framed_of mem map3) ≡ fetching pc (framed_of mem map)
-      stop_third d b r f k = stopped mem map3 third d b r _ f k (from_third ∙ rw f)
+      pub stop_third : (q : Refusal) (k : Stop) → third ≡ Err q → k ≡ refusal_of q → fetched (Err k) (framed_of mem map3) ≡ fetching pc (framed_of mem map)
+      stop_third q k f g = stopped mem map3 q k _ g (from_third ∙ rw f)
 
-      pub whole_text : (z k h3 : ℕ) → third ≡ At z k → h3 ≡ read_field (framed_of mem map3) last 2 0
-          → fetched (T.Whole h1 h2 h3) (framed_of mem map3) ≡ fetching pc (framed_of mem map)
+      pub whole_text : (h3 : ℕ) → third ≡ Ok h3 → fetched (Ok (record { h1 = h1; h2 = h2; h3 = h3 })) (framed_of mem map3) ≡ fetching pc (framed_of mem map)
       unfolding interp
-      whole_text z k h3 f eh3 = sym (from_third ∙ rw (f, ← eh3))
+      whole_text h3 f = sym (from_third ∙ rw f)

@@ -3,18 +3,16 @@ use Prim.Native.Nat.{ℕ, ◌+◌, ◌-◌, ◌*◌, ◌<◌, ◌≤◌}
 use native.Mathlib.Omega.{arith}
 use native.Mathlib.Decide.{ℕ_discrete, dec_lt}
 use mathlib.Core.Path.{◌≡◌, refl, sym, ◌∙◌, ap, subst}
-use mathlib.Core.Bool.{Bool, true, false}
+use mathlib.Core.Bool.{Bool, true}
 use mathlib.Core.List.{List}
 use borrow.Author.Tests.{eqb-true, leb-true, ltb-true}
 use lib.Dec.{eqb, leb, ltb}
-use lib.ListN.{length, get_or, set, get_or-eq_default}
+use lib.ListN.{length, get_or, set}
 use lib.Seq.{get_or-set_same, get_or-set_other, set_out}
 use Rattle.pages.specs.declared.Access.TheVariants.{Fetch, Store}
-use Rattle.pages.specs.declared.Look.{Look}
-use Rattle.pages.specs.declared.Look.TheVariants.{At, Refused}
 use Rattle.pages.specs.Word.{bit_g, word_of, page_of, accessed, written}
 use Rattle.pages.specs.Tests.{Verdict, fine, bad}
-use Rattle.pages.specs.Look.{look_of, verdict_of}
+use Rattle.pages.specs.Look.{Look, At, look_of, verdict_of}
 use Rattle.pages.specs.Framed.{Framed, framed_of, accessed_at, written_at, look_in, noted, read_byte, write_byte, write_at}
 use Rattle.words.proofs.Tests.{left_of_lem, right_of_lem}
 use Rattle.pages.proofs.LookLaws.{found_small}
@@ -25,9 +23,8 @@ use Rattle.machine.specs.Prog.{Prog, done, fail, look, get, put, finished, keeps
 use Rattle.machine.specs.Store.{framed}
 use Rattle.machine.specs.Step.{step}
 use Rattle.actions.specs.declared.Now.{Now}
-use Rattle.actions.specs.declared.Out.{Out}
-use Rattle.actions.specs.declared.Out.TheVariants.{Done}
-use Rattle.actions.specs.Answered.{cpu_of, told, doing}
+use Rattle.std.specs.Prelude.{Ok, Err}
+use Rattle.actions.specs.Answered.{Out, cpu_of, told, doing}
 use Rattle.quick.specs.declared.Window.{Window}
 use Rattle.engine.specs.Entry.{Held, Ready, inside}
 use Rattle.engine.proofs.Runs.{was_done}
@@ -56,8 +53,8 @@ module _ (P : ℕ → Type 0) (pa : (w : ℕ) → P w → P (accessed w)) (pw : 
   wrote_has s a v h = go (look_in s Store a)
     where
       go : (l : Look) → P (word_of (write_at s a v l).map q)
-      go (At r k) = changed_has written pw s.map (page_of a) h
-      go (Refused c b) = h
+      go (Ok t) = changed_has written pw s.map (page_of a) h
+      go (Err e) = h
 
   pub kept_by : {R : Type 0} (p : Prog R) (kept s : Framed) (r : R) (t : Framed) → interp framed p kept s ≡ finished r t
       → P (word_of s.map q) → P (word_of t.map q)
@@ -94,7 +91,7 @@ held_written first len b size w h =
 -- after a step
 module _ (w : Window) (mem map : List ℕ) (ready : Ready w map (length mem)) (regs : List ℕ) (c : Now) where
   pub ready_after : (out : Out) (n : Now) (regs' mem' map' : List ℕ)
-      → told out regs' c (framed_of mem' map') ≡ doing step regs c (framed_of mem map) → out ≡ Done n → length mem' ≡ length mem → Ready w map' (length mem')
+      → told out regs' c (framed_of mem' map') ≡ doing step regs c (framed_of mem map) → out ≡ Ok n → length mem' ≡ length mem → Ready w map' (length mem')
   unfolding told
   ready_after out n regs' mem' map' t o e =
       λ l. subst (λ (x : ℕ). Held w.first w.len w.base (word_of map' (page_of w.first)) x) (sym e) (still_held (ready l))
@@ -154,9 +151,6 @@ module _ (w : Window) (mem map : List ℕ) (ready : Ready w map (length mem)) (p
       held.seen
 
 -- opened
-pub shut_ready : (w : Window) (map : List ℕ) (size : ℕ) → w.len ≡ 0 → Ready w map size
-shut_ready w map size e = λ l. absurd (omega arith)
-
 pub open_ready : (map : List ℕ) (size page first len : ℕ) (s : Bool) (found : Look) (r k : ℕ) → first ≡ page * 4096
     → s ≡ eqb (bit_g (word_of map page)) 1 → s ≡ true → found ≡ look_of map size Fetch first → found ≡ At r k → len + 5 ≤ k
     → Ready (record { first = first; len = len; base = r }) map size
@@ -166,8 +160,3 @@ open_ready map size page first len s found r k ef es ts el f room =
   where
     at_page : page_of first ≡ page
     at_page = unfold page_of in omega (arith, ef)
-
--- a page that the map lacks has no mark
-pub unseen : (map : List ℕ) (page : ℕ) → length map ≤ page → false ≡ eqb (bit_g (word_of map page)) 1
-unfolding word_of bit_g
-unseen map page h = rw (get_or-eq_default map 0 h)

@@ -1,15 +1,15 @@
 // Number 6 at the door, and replies in numbers.
 ghost use Rattle.std.specs.Prelude.{◌≡◌, []};
 ghost use Rattle.machine.specs.Machine.{given, proper, turned_away};
-ghost use Rattle.engine.specs.Entry.{step_reply, ran_reply};
+ghost use Rattle.engine.specs.Entry.{replied, step_reply, ran_reply};
 
 use crate::Ran;
-use actions::{Now, Out};
+use actions::{Now, Stop};
 use machine::Reply;
 
-// Lists of the right size, and counter, code and mask in range.
-pub fn is_proper(mem: &[u8], map: &[u16], regs: &[u32], pc: u32, code: u32, mask: u32) -> bool
-    ensures { result ≡ proper (given mem.now map.now regs.now pc code mask) }
+// Lists of the right size, and counter, code and mask in range. (One by one: as one `&&` of eight, the proof goes by cases at each.)
+pub fn is_proper(mem: &[u8], map: &[u16], regs: &[u32], c: Now) -> bool
+    ensures { result ≡ proper (given mem.now map.now regs.now c.pc c.code c.mask) }
 {
     let size = mem.len();
     if regs.len() != 16 {
@@ -27,63 +27,53 @@ pub fn is_proper(mem: &[u8], map: &[u16], regs: &[u32], pc: u32, code: u32, mask
     if 262144 < size {
         return false;
     }
-    if 16777216 <= pc {
+    if 16777216 <= c.pc {
         return false;
     }
-    if 4 <= code {
+    if 4 <= c.code {
         return false;
     }
-    mask < 16
+    c.mask < 16
+}
+
+// Numbers again, as the exported functions hand them out.
+fn reply(number: u32, place: u32, count: u32, now: Now) -> Reply
+    ensures { result ≡ replied number place count now }
+{
+    let Now { pc, code, mask } = now;
+    Reply {
+        number,
+        place,
+        count,
+        pc,
+        code,
+        mask,
+    }
 }
 
 // Number 6: place and count 0, nothing altered.
-pub fn away(pc: u32, code: u32, mask: u32) -> Reply
-    ensures { result ≡ (turned_away (given [] [] [] pc code mask)).reply }
+pub fn away(c: Now) -> Reply
+    ensures { result ≡ (turned_away (given [] [] [] c.pc c.code c.mask)).reply }
 {
-    Reply {
-        number: 6,
-        place: 0,
-        count: 0,
-        pc: pc,
-        code: code,
-        mask: mask,
-    }
+    reply(6, 0, 0, c)
 }
 
 // A step's reply: completed, or refused with the state as it was.
-pub fn step_reply(c: Now, out: Out) -> Reply
+pub fn step_reply(c: Now, out: Result<Now, Stop>) -> Reply
     ensures { result ≡ step_reply c out }
 {
     match out {
-        Out::Done(n) => Reply {
-            number: 0,
-            place: 0,
-            count: 1,
-            pc: n.pc,
-            code: n.code,
-            mask: n.mask,
-        },
-        Out::Stop(number, place) => Reply {
-            number: number,
-            place: place,
-            count: 0,
-            pc: c.pc,
-            code: c.code,
-            mask: c.mask,
-        },
+        Ok(n) => reply(0, 0, 1, n),
+        Err(stop) => reply(stop.number(), stop.place(), 0, c),
     }
 }
 
+// A run's: refused, or 7 where the budget is spent.
 pub fn run_reply(r: Ran) -> Reply
     ensures { result ≡ ran_reply r }
 {
-    let now = r.now;
-    Reply {
-        number: r.number,
-        place: r.place,
-        count: r.count,
-        pc: now.pc,
-        code: now.code,
-        mask: now.mask,
+    match r.stopped {
+        Some(stop) => reply(stop.number(), stop.place(), r.count, r.now),
+        None => reply(7, 0, r.count, r.now),
     }
 }

@@ -10,35 +10,36 @@ pub mod window;
 ghost use Rattle.std.specs.Prelude.{◌≡◌};
 ghost use Rattle.machine.specs.Machine.{given, outcome, step_outcome, run_outcome};
 
-use actions::Now;
+use actions::{Now, Stop};
 use machine::Reply;
 
-// An instruction's halfwords from the counter on, or the refusal that comes before them all are had.
-#[derive(Clone, Copy)]
-pub enum Fetched {
-    Whole(u16, u16, u16),
-    Stop(u32, u32),
+// An instruction's halfwords from the counter on; those that its operation lacks are read with the rest.
+#[derive(Clone, Copy, Debug, PartialEq, Eq)]
+pub struct Text {
+    pub h1: u16,
+    pub h2: u16,
+    pub h3: u16,
 }
 
-// How a run ended.
-#[derive(Clone, Copy)]
+// How a run ended: what stopped it, or nothing but its budget; its completed steps, and the state's scalars.
+#[derive(Clone, Copy, Debug, PartialEq, Eq)]
 pub struct Ran {
-    pub number: u32,
-    pub place: u32,
+    pub stopped: Option<Stop>,
     pub count: u32,
     pub now: Now,
 }
 
 // How far the quick way went: the state's scalars there, how many steps are left, and whether it was stuck, so that the next one is for
-// the plain step.
-#[derive(Clone, Copy)]
+// the plain step. (A flag: state and what is left are wanted in both cases, and one step more where it was stuck.)
+#[derive(Clone, Copy, Debug, PartialEq, Eq)]
 pub struct Spun {
     pub now: Now,
     pub left: u32,
     pub stuck: bool,
 }
 
-// One step from this state, the plain way: number 0 and count 1 where it completed.
+// One step from this state, the plain way: number 0 and count 1 where it completed. (Counter, code and mask one by one, and a function of its
+// own beside the run: the exported functions are so.)
 pub fn step(
     mem: &mut [u8],
     map: &mut [u16],
@@ -49,16 +50,12 @@ pub fn step(
 ) -> Reply
     ensures { outcome result mem.new map.new regs.new ≡ step_outcome (given mem.old map.old regs.old pc code mask) }
 {
-    if door::is_proper(mem, map, regs, pc, code, mask) {
-        let c = Now {
-            pc: pc,
-            code: code,
-            mask: mask,
-        };
+    let c = Now { pc, code, mask };
+    if door::is_proper(mem, map, regs, c) {
         let out = stepping::step_once(regs, mem, map, c);
         return door::step_reply(c, out);
     }
-    door::away(pc, code, mask)
+    door::away(c)
 }
 
 // At most `budget` steps, up to the first refusal: 7 where the budget is spent.
@@ -73,17 +70,10 @@ pub fn run(
 ) -> Reply
     ensures { outcome result mem.new map.new regs.new ≡ run_outcome budget (given mem.old map.old regs.old pc code mask) }
 {
-    if door::is_proper(mem, map, regs, pc, code, mask) {
-        if budget <= 65535 {
-            let c = Now {
-                pc: pc,
-                code: code,
-                mask: mask,
-            };
-            let ran = stepping::run_steps(regs, mem, map, c, budget);
-            return door::run_reply(ran);
-        }
-        return door::away(pc, code, mask);
+    let c = Now { pc, code, mask };
+    if door::is_proper(mem, map, regs, c) && budget <= 65535 {
+        let ran = stepping::run_steps(regs, mem, map, c, budget);
+        return door::run_reply(ran);
     }
-    door::away(pc, code, mask)
+    door::away(c)
 }

@@ -42,13 +42,14 @@ pub fn spin(
     let mut at = w.base + (c.pc - w.first) as usize;
     let mut code = c.code;
     let mut left = budget;
+    // No `for`: an instruction that is left undone spends nothing, and what is left is handed back.
     while 0 < left {
         let p = Here {
             window: w,
-            at: at,
+            at,
             text: fields::flat::half_of(mem, at),
-            code: code,
-            mask: mask,
+            code,
+            mask,
         };
         let turn = quick::table::one(regs, mem, map, p);
         match turn {
@@ -59,9 +60,9 @@ pub fn spin(
                         now: Now {
                             pc: w.first + (next - w.base) as u32,
                             code: k,
-                            mask: mask,
+                            mask,
                         },
-                        left: left,
+                        left,
                         stuck: false,
                     };
                 }
@@ -70,23 +71,15 @@ pub fn spin(
             }
             Turn::Away(pc, k) => {
                 return Spun {
-                    now: Now {
-                        pc: pc,
-                        code: k,
-                        mask: mask,
-                    },
+                    now: Now { pc, code: k, mask },
                     left: left - 1,
                     stuck: false,
                 };
             }
             Turn::Undone(pc, k) => {
                 return Spun {
-                    now: Now {
-                        pc: pc,
-                        code: k,
-                        mask: mask,
-                    },
-                    left: left,
+                    now: Now { pc, code: k, mask },
+                    left,
                     stuck: true,
                 };
             }
@@ -95,10 +88,10 @@ pub fn spin(
     Spun {
         now: Now {
             pc: w.first + (at - w.base) as u32,
-            code: code,
-            mask: mask,
+            code,
+            mask,
         },
-        left: left,
+        left,
         stuck: false,
     }
 }

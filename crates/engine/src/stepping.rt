@@ -7,22 +7,19 @@ ghost use Rattle.machine.specs.Machine.{ops_for};
 ghost use Rattle.actions.specs.Answered.{cpu_of, told, doing};
 ghost use Rattle.engine.specs.Entry.{ran_as, Went};
 
-use crate::{Fetched, Ran, Spun, formats, spinning, window};
-use actions::{Now, Out};
+use crate::{Ran, Spun, formats, spinning, window};
+use actions::{Now, Stop};
 
 // One step: its halfwords, and then its action, which finds the marks of the fetch set.
-pub fn step_once(regs: &mut [u32], mem: &mut [u8], map: &mut [u16], c: Now) -> Out
+pub fn step_once(regs: &mut [u32], mem: &mut [u8], map: &mut [u16], c: Now) -> Result<Now, Stop>
     ensures { told result regs.new c (framed_of mem.new map.new) ≡ doing step regs.old c (framed_of mem.old map.old) }
 {
     let pc = c.pc;
     if pc % 2 == 1 {
-        return Out::Stop(2, pc);
+        return Err(Stop::Boundary(pc));
     }
-    let text = formats::text(mem, map, pc);
-    match text {
-        Fetched::Stop(number, place) => Out::Stop(number, place),
-        Fetched::Whole(h1, h2, h3) => formats::finish(regs, mem, map, c, h1, h2, h3),
-    }
+    let text = formats::text(mem, map, pc)?;
+    formats::finish(regs, mem, map, c, text)
 }
 
 // Steps of the quick way from c, where its page has a window.
@@ -30,9 +27,10 @@ fn hurry(regs: &mut [u32], mem: &mut [u8], map: &mut [u16], c: Now, budget: u32)
     ensures { Went c budget regs.old mem.old map.old regs.new mem.new map.new result }
 {
     if c.pc % 2 == 0 {
-        let w = window::open(mem, map, c.pc);
-        if window::is_inside(w, c.pc) {
-            return spinning::spin(regs, mem, map, w, c, budget);
+        if let Some(w) = window::open(mem, map, c.pc) {
+            if window::is_inside(w, c.pc) {
+                return spinning::spin(regs, mem, map, w, c, budget);
+            }
         }
     }
     spinning::still(c, budget)
@@ -44,6 +42,7 @@ pub fn run_steps(regs: &mut [u32], mem: &mut [u8], map: &mut [u16], c: Now, budg
 {
     let mut at = c;
     let mut left = budget;
+    // No `for`: a turn spends as many steps as the quick way did, and one more where it was stuck.
     while 0 < left {
         let spun = hurry(regs, mem, map, at, left);
         at = spun.now;
@@ -51,15 +50,14 @@ pub fn run_steps(regs: &mut [u32], mem: &mut [u8], map: &mut [u16], c: Now, budg
         if spun.stuck {
             let out = step_once(regs, mem, map, at);
             match out {
-                Out::Stop(number, place) => {
+                Err(stop) => {
                     return Ran {
-                        number: number,
-                        place: place,
+                        stopped: Some(stop),
                         count: budget - left,
                         now: at,
                     };
                 }
-                Out::Done(next) => {
+                Ok(next) => {
                     at = next;
                     left = left - 1;
                 }
@@ -67,8 +65,7 @@ pub fn run_steps(regs: &mut [u32], mem: &mut [u8], map: &mut [u16], c: Now, budg
         }
     }
     Ran {
-        number: 7,
-        place: 0,
+        stopped: None,
         count: budget - left,
         now: at,
     }

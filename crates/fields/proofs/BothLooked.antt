@@ -1,14 +1,12 @@
 -- Both fields of a move or a compare, looked up one after the other, and what that leaves.
+use Rattle.std.specs.Prelude.{Ok, Err}
 use Rattle.std.proofs.Common.{◌≡◌, ℕ, zero, suc, ◌<◌, List, sym, refl, ap, ◌∙◌, arith}
 use Rattle.pages.specs.declared.Access.{Access}
 use Rattle.pages.specs.declared.Access.TheVariants.{Load}
 use Rattle.pages.specs.declared.Cause.{Cause}
-use Rattle.pages.specs.declared.Look.{Look}
-use Rattle.pages.specs.declared.Look.TheVariants.{At, Refused}
 use Rattle.pages.specs.Word.{next}
-use Rattle.pages.specs.Look.{look_of}
+use Rattle.pages.specs.Look.{Look, At, Refused, look_of}
 use Rattle.pages.specs.Framed.{framed_of}
-use Rattle.fields.specs.declared.Order.TheVariants.{Code, Barred}
 use Rattle.fields.specs.Direct.{or_else, look_field, look_fields, look_one, note_field, move_field, compare_field}
 use Rattle.fields.specs.Both.{look_both, moved_by, order_of, noted_by}
 use Rattle.fields.proofs.Found.{whole_first}
@@ -24,8 +22,8 @@ module _ (map : List ℕ) (size : ℕ) (acc : Access) (c : Cause) (p : ℕ) wher
       go : (v : Look) → or_else v (look_field map size acc (next b) m (At r k)) ≡ Refused c p
           → (look_field map size acc (next b) m (At r k) ≡ Refused c p → look_field map size acc (next b) m rest ≡ Refused c p)
           → or_else v (look_field map size acc (next b) m rest) ≡ Refused c p
-      go (At x y) t later = later t
-      go (Refused d q) t later = t
+      go (Ok s) t later = later t
+      go (Err e) t later = t
 
   refused_any : (a n : ℕ) → 0 < n → look_one map size acc a n ≡ Refused c p → (rest : Look) → look_field map size acc a n rest ≡ Refused c p
   unfolding look_one look_field
@@ -34,8 +32,8 @@ module _ (map : List ℕ) (size : ℕ) (acc : Access) (c : Cause) (p : ℕ) wher
     where
       go : (v : Look) → look_of map size acc a ≡ v → or_else v (look_field map size acc (next a) m v) ≡ Refused c p
           → or_else v (look_field map size acc (next a) m rest) ≡ Refused c p
-      go (At x y) f t = stop_any x y m (next a) t rest
-      go (Refused d q) f t = t
+      go (Ok s) f t = stop_any s.at s.reach m (next a) t rest
+      go (Err e) f t = t
 
 module _ (map : List ℕ) (size : ℕ) (acc : Access) (a b n : ℕ) (h : 0 < n) (there : Look) (e : there ≡ look_one map size acc a n) where
   pub both_first : (c : Cause) (p : ℕ) → there ≡ Refused c p → there ≡ look_both map size acc a b n
@@ -70,11 +68,11 @@ module _ (mem map : List ℕ) (a b n : ℕ) (found : Look) where
   moved_yes r k f map' map'' mem''' map''' e g m = m ∙ rw (g, e) (sym (ap (λ (l : Look). moved_by l mem map a b n) f))
 
   module _ (look : Look) (s : found ≡ look) where
-    pub order_no : (c : Cause) (p : ℕ) → found ≡ Refused c p → (Barred c p ≡ order_of look mem map a b n) × (map ≡ noted_by look map a b n)
+    pub order_no : (c : Cause) (p : ℕ) → found ≡ Refused c p → (Err (record { cause = c; place = p }) ≡ order_of look mem map a b n) × (map ≡ noted_by look map a b n)
     order_no c p f =
         (ap (λ (l : Look). order_of l mem map a b n) (sym f ∙ s), ap (λ (l : Look). noted_by l map a b n) (sym f ∙ s))
 
     pub order_yes : (r k : ℕ) → found ≡ At r k → (map' map'' : List ℕ) → map' ≡ note_field map a n → map'' ≡ note_field map' b n
-        → (v : ℕ) → v ≡ compare_field (framed_of mem map'') a b n → (Code v ≡ order_of look mem map a b n) × (map'' ≡ noted_by look map a b n)
+        → (v : ℕ) → v ≡ compare_field (framed_of mem map'') a b n → (Ok v ≡ order_of look mem map a b n) × (map'' ≡ noted_by look map a b n)
     order_yes r k f map' map'' e g v w =
-        (ap Code (w ∙ rw (g, e)) ∙ ap (λ (l : Look). order_of l mem map a b n) (sym f ∙ s), rw (g, e) (ap (λ (l : Look). noted_by l map a b n) (sym f ∙ s)))
+        (ap Ok (w ∙ rw (g, e)) ∙ ap (λ (l : Look). order_of l mem map a b n) (sym f ∙ s), rw (g, e) (ap (λ (l : Look). noted_by l map a b n) (sym f ∙ s)))

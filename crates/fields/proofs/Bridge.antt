@@ -1,13 +1,12 @@
 -- Each field program over the framed store comes to its direct form.
+use Rattle.std.specs.Prelude.{Ok, Err}
 use Rattle.std.proofs.Common.{◌≡◌, ℕ, zero, suc, ◌+◌, ◌*◌, ◌/◌, ◌%◌, ◌^◌, Bool, true, false, eqb, length, refl, ap, ◌∙◌}
 use Rattle.words.specs.Pick.{pick}
 use Rattle.words.specs.Codes.{compare_bits}
 use Rattle.pages.specs.declared.Access.{Access}
-use Rattle.pages.specs.declared.Look.{Look}
-use Rattle.pages.specs.declared.Look.TheVariants.{At, Refused}
 use Rattle.pages.specs.Word.{next}
 use Rattle.pages.specs.Tests.{number_of}
-use Rattle.pages.specs.Look.{verdict_of}
+use Rattle.pages.specs.Look.{Look, At, verdict_of}
 use Rattle.pages.specs.Framed.{Framed, framed_of, accessed_at, look_in, noted, read_byte, write_byte}
 use Rattle.pages.proofs.LookLaws.{refused_place}
 use Rattle.machine.specs.Prog.{Prog, Answer, refused, after, interp}
@@ -19,8 +18,8 @@ use Rattle.fields.specs.Direct.{or_else, look_field, note_field, read_field, wri
 
 -- what follows a look-up of a field: a refusal, or the rest
 abbrev pub after_look : {R : Type 0} → Look → (Framed → Answer R Framed) → Framed → Framed → Answer R Framed
-after_look (At r k) go s kept = go s
-after_look (Refused c a) go s kept = refused (number_of c) a kept
+after_look (Ok t) go s kept = go s
+after_look (Err e) go s kept = refused (number_of e.cause) e.place kept
 
 -- the store with G noted on each byte's page
 abbrev pub noted_field : Framed → ℕ → ℕ → Framed
@@ -47,11 +46,11 @@ looks_is acc op a (suc n) k kept s r =
         ≡ after_look (look_field (accessed_at s.map a) (length s.mem) acc (next a) n (At r 0)) (λ t. interp framed k kept t) (noted_field (noted s a) (next a) n) kept
         → after (verdict_of l) (λ t. interp framed (looks acc (next a) n k) kept t) (noted s a) a kept
         ≡ after_look (or_else l (look_field s.map (length s.mem) acc (next a) n (At r 0))) (λ t. interp framed k kept t) (noted_field (noted s a) (next a) n) kept
-    go (At x y) e ih =
+    go (Ok spot) e ih =
         ih
         ∙ ap (λ (l : Look). after_look l (λ t. interp framed k kept t) (noted_field (noted s a) (next a) n) kept) (field_blind s a acc (next a) n (At r 0))
-    go (Refused c p) e ih =
-        ap (λ (x : ℕ). refused (number_of c) x kept) (refused_place s.map (length s.mem) acc a c p e)
+    go (Err f) e ih =
+        ap (λ (x : ℕ). refused (number_of f.cause) x kept) (refused_place s.map (length s.mem) acc a f.cause f.place e)
 
 pub gets_is : {R : Type 0} (a n v : ℕ) (k : ℕ → Prog R) (kept s : Framed)
     → interp framed (gets a n v k) kept s ≡ interp framed (k (read_field s a n v)) kept s

@@ -3,13 +3,24 @@ use Rattle.std.proofs.Common.{◌≡◌, ℕ, zero, suc, ◌+◌, ◌-◌, ◌<�
 use Rattle.words.specs.Codes.{compare_bits}
 use Rattle.pages.specs.declared.Access.{Access}
 use Rattle.pages.specs.declared.Cause.{Cause}
-use Rattle.pages.specs.declared.Look.{Look}
-use Rattle.pages.specs.declared.Look.TheVariants.{At, Refused}
 use Rattle.pages.specs.Word.{next}
-use Rattle.pages.specs.Look.{look_of}
+use Rattle.pages.specs.Look.{Look, At, Refused, look_of}
 use Rattle.pages.specs.Framed.{Framed, accessed_at, read_byte, write_byte}
 use Rattle.fields.specs.declared.Field.{Field}
 use Rattle.fields.specs.Direct.{or_else, look_field, look_fields, note_field, move_field, compare_field}
+
+-- a loop that has done i turns of n
+pub none_done : (n : ℕ) → n - 0 ≡ n
+none_done n = omega arith
+
+pub one_done : (n i : ℕ) → n - (i + 1) ≡ n - i - 1
+one_done n i = omega arith
+
+pub some_left : (n i : ℕ) → i < n → 0 < n - i
+some_left n i h = omega arith
+
+pub all_done : (n i : ℕ) → n ≤ i → n - i ≤ 0
+all_done n i h = omega arith
 
 pub pred_suc : (k : ℕ) → suc k - 1 ≡ k
 pred_suc k = omega arith

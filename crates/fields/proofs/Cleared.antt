@@ -1,12 +1,11 @@
 -- A field of which no byte is refused: behind a piece of it the rest is such a field, and on a boundary of 4 its first word is reached whole.
+use Rattle.std.specs.Prelude.{Ok, Err}
 use Rattle.std.proofs.Common.{◌≡◌, ℕ, zero, suc, ◌+◌, ◌-◌, ◌%◌, ◌<◌, ◌≤◌, List, sym, refl, ap, ◌∙◌, arith}
 use Rattle.pages.specs.declared.Access.{Access}
 use Rattle.pages.specs.declared.Cause.{Cause}
-use Rattle.pages.specs.declared.Look.{Look}
-use Rattle.pages.specs.declared.Look.TheVariants.{At, Refused}
 use Rattle.words.proofs.Choice.{by_order}
 use Rattle.pages.specs.Word.{page_of, next}
-use Rattle.pages.specs.Look.{look_of, verdict_of}
+use Rattle.pages.specs.Look.{Look, At, Refused, look_of, verdict_of}
 use Rattle.pages.proofs.ReachLaws.{reach_some, reach_below, reach_fits, reach_page, reach_behind, reach_largest}
 use Rattle.fields.specs.Direct.{or_else, look_field, look_one, Clear}
 use Rattle.fields.proofs.Pieces.{look_pieces}
@@ -23,8 +22,8 @@ module _ (map : List ℕ) (size : ℕ) (acc : Access) where
       go : (v : Look) → or_else v (look_field map size acc (next a) n before) ≡ At r k
           → (look_field map size acc (next a) n before ≡ At r k → look_field map size acc (next a) n rest ≡ rest)
           → or_else v (look_field map size acc (next a) n rest) ≡ rest
-      go (At p q) t later = later t
-      go (Refused c q) t later = absurd (let z : ◌≡◌ {A = ℕ} 0 1 = cc in omega arith)
+      go (Ok s) t later = later t
+      go (Err e) t later = absurd (let z : ◌≡◌ {A = ℕ} 0 1 = cc in omega arith)
 
   -- a field that was found
   pub found_clear : (a n r k : ℕ) → look_one map size acc a n ≡ At r k → Clear map size acc a n

@@ -1,40 +1,34 @@
 -- A move of which one field goes on into a second page, where no page lacks its marks: what moving it in two pieces comes to.
-use Rattle.std.proofs.Common.{◌≡◌, ℕ, zero, suc, ◌+◌, ◌-◌, ◌%◌, ◌<◌, ◌≤◌, false, List, length, get_or, set, sym, refl, ap, ◌∙◌, true≢false, zero-add, arith, length-set, le-ltb, lt-ltb}
+use Rattle.std.proofs.Common.{◌≡◌, ◌⊎◌, inl, inr, ℕ, zero, suc, ◌+◌, ◌-◌, ◌%◌, ◌<◌, ◌≤◌, false, List, length, get_or, set, sym, refl, ap, ◌∙◌, true≢false, zero-add, arith, length-set, le-ltb, lt-ltb}
 use Rattle.pages.specs.declared.Access.{Access}
 use Rattle.pages.specs.declared.Access.TheVariants.{Fetch, Load, Store}
-use Rattle.pages.specs.declared.Look.{Look}
-use Rattle.pages.specs.declared.Look.TheVariants.{At}
 use Rattle.pages.specs.Tests.{is_store}
-use Rattle.pages.specs.Look.{fewer}
+use Rattle.pages.specs.Look.{At, fewer}
 use Rattle.pages.specs.Framed.{framed_of, written_at}
 use Rattle.pages.proofs.Marks.{written_again}
 use Rattle.pages.proofs.ReachLaws.{reach_some, reach_below, reach_page, reach_inside}
-use Rattle.lookup.specs.Marked.{Found, MarkedLook}
+use Rattle.lookup.specs.Marked.{Found}
 use Rattle.fields.specs.declared.Span.{Span}
 use Rattle.fields.specs.Direct.{note_field, move_field, flat_move}
 use Rattle.fields.specs.Both.{look_both, moved_by}
 use Rattle.fields.specs.Spans.{spot_of, rest_of, Spans, edged, Edged}
 use Rattle.fields.proofs.Spanned.{spot_first, spot_rest, rest_first, rest_rest, span_one, span_two, spans_both, spans_paged, noted_one, noted_two, moved_on, still_spans, begun, all_moved}
 
--- the second look-up, as the code has it
-pub edge_found : (found : Look) (map : List ℕ) (size : ℕ) (acc : Access) (a b z far : ℕ) → MarkedLook found map size acc b → b ≡ a
-    → found ≡ At z far → Found map size acc a z far
-unfolding MarkedLook
-edge_found found map size acc a b z far m h e = rw (e, h) at m
+-- an access that is no store
+pub no_store : (acc : Access) → (acc ≡ Load) ⊎ (acc ≡ Fetch) → is_store acc ≡ false
+no_store acc (inl e) = rw e refl
+no_store acc (inr e) = rw e refl
 
-pub edge_room : (found : Look) (map : List ℕ) (size : ℕ) (acc : Access) (b z far m : ℕ) → MarkedLook found map size acc b
-    → found ≡ At z far → m ≤ far → z + m ≤ size
-edge_room found map size acc b z far m h e l =
-    let f = edge_found found map size acc b b z far h refl e in
-    omega (arith, reach_inside map size acc b z far f.there)
+-- the second look-up, as the code has it
+pub edge_room : (map : List ℕ) (size : ℕ) (acc : Access) (b z far m : ℕ) → Found map size acc b z far → m ≤ far → z + m ≤ size
+edge_room map size acc b z far m f l = omega (arith, reach_inside map size acc b z far f.there)
 
 -- and what was moved by it
-module _ (acc : Access) (map : List ℕ) (a x y k n : ℕ) (mem mem₁ mem₂ : List ℕ) (found : Look) (b z far : ℕ)
-    (m : MarkedLook found map (length mem) acc b) (h : b ≡ (a + k) % 16777216) (e : found ≡ At z far)
-    (l : n - k ≤ far) (f : mem₁ ≡ flat_move mem x y k) where
+module _ (acc : Access) (map : List ℕ) (a x y k n : ℕ) (mem mem₁ mem₂ : List ℕ) (b z far : ℕ)
+    (m : Found map (length mem) acc b z far) (h : b ≡ (a + k) % 16777216) (l : n - k ≤ far) (f : mem₁ ≡ flat_move mem x y k) where
   both_pieces : mem₂ ≡ edged acc mem x y k z n → Edged acc map a x y k n mem mem₂
   both_pieces g =
-      record { z = z; far = far; found = edge_found found map (length mem) acc ((a + k) % 16777216) b z far m h e; room = l; moved = g }
+      record { z = z; far = far; found = rw h at m; room = l; moved = g }
 
   pub edged_stored : acc ≡ Store → mem₂ ≡ flat_move mem₁ z (y + k) (n - k) → Edged acc map a x y k n mem mem₂
   unfolding edged

@@ -1,15 +1,14 @@
 -- An operand that was looked up: the first look-up reached its end, so it is read and written where it was found.
+use Rattle.std.specs.Prelude.{Ok, Err}
 use Rattle.std.proofs.Common.{◌≡◌, ℕ, zero, suc, ◌+◌, ◌-◌, ◌%◌, ◌<◌, ◌≤◌, Bool, true, false, not, eqb, List, length, get_or, set, sym, refl, ap, ◌∙◌, add-zero, arith, eq-eqb, eqb-true}
 use native.Mathlib.Decide.{dec_lt}
 use Rattle.pages.specs.declared.Access.{Access}
 use Rattle.pages.specs.declared.Access.TheVariants.{Load, Store}
 use Rattle.pages.specs.declared.Cause.{Cause}
 use Rattle.pages.specs.declared.Cause.TheVariants.{Addressing}
-use Rattle.pages.specs.declared.Look.{Look}
-use Rattle.pages.specs.declared.Look.TheVariants.{At, Refused}
 use Rattle.pages.specs.Word.{page_of, next, accessed}
 use Rattle.pages.specs.Tests.{fine}
-use Rattle.pages.specs.Look.{look_of, verdict_of}
+use Rattle.pages.specs.Look.{Look, At, Refused, look_of, verdict_of}
 use Rattle.pages.specs.Framed.{framed_of, accessed_at, written_at, read_byte, write_byte, read_at, write_at}
 use Rattle.pages.proofs.LookLaws.{found_less, any_load}
 use Rattle.pages.proofs.ReachLaws.{reach_below, reach_inside, reach_largest, reach_some, reach_end}
@@ -37,8 +36,8 @@ clear_rest map size acc (suc n) a rest x y e =
     go (look_of map size acc a) e (λ t. clear_rest map size acc n (next a) rest x y t)
   where
     go : (v : Look) → or_else v (look_field map size acc (next a) n rest) ≡ At x y → (look_field map size acc (next a) n rest ≡ At x y → rest ≡ At x y) → rest ≡ At x y
-    go (At p q) t later = later t
-    go (Refused c q) t later = absurd (let z : ◌≡◌ {A = ℕ} 0 1 = cc in omega arith)
+    go (Ok s) t later = later t
+    go (Err e) t later = absurd (let z : ◌≡◌ {A = ℕ} 0 1 = cc in omega arith)
 
 -- every byte of a field that was found is found
 module _ (map : List ℕ) (size : ℕ) (acc : Access) (a n : ℕ) (low : a + n ≤ 16777215) where
@@ -56,9 +55,9 @@ module _ (map : List ℕ) (size : ℕ) (acc : Access) (a n : ℕ) (low : a + n �
       go : (v : Look) → look_of map size acc (a + d) ≡ v → or_else v (look_field map size acc (next (a + d)) k rest) ≡ At x y
           → (look_field map size acc (next (a + d)) k rest ≡ At x y → d < e → verdict_of (look_of map size acc (a + e)) ≡ fine)
           → Dec (d < e) → verdict_of (look_of map size acc (a + e)) ≡ fine
-      go (At p q) g t later (yes i) = later t i
-      go (At p q) g t later (no i) = let s : d ≡ e = omega arith in ap (λ (b : ℕ). verdict_of (look_of map size acc (a + b))) (sym s) ∙ ap verdict_of g
-      go (Refused c q) g t later i = absurd (let z : ◌≡◌ {A = ℕ} 0 1 = cc in omega arith)
+      go (Ok s) g t later (yes i) = later t i
+      go (Ok spot) g t later (no i) = let s : d ≡ e = omega arith in ap (λ (b : ℕ). verdict_of (look_of map size acc (a + b))) (sym s) ∙ ap verdict_of g
+      go (Err e) g t later i = absurd (let z : ◌≡◌ {A = ℕ} 0 1 = cc in omega arith)
 
 -- a field looked up as a whole has its first byte's answer
 pub whole_first : (map : List ℕ) (size : ℕ) (acc : Access) (a n r k : ℕ) → look_one map size acc a n ≡ At r k → look_of map size acc a ≡ At r k

@@ -4,9 +4,8 @@ use borrow.Author.Tests.{eqb-false}
 use Rattle.words.specs.Pick.{pick}
 use Rattle.words.specs.Codes.{compare_bits}
 use Rattle.pages.specs.declared.Access.{Access}
-use Rattle.pages.specs.declared.Look.{Look}
 use Rattle.pages.specs.Word.{next}
-use Rattle.pages.specs.Look.{fewer, look_of}
+use Rattle.pages.specs.Look.{Look, fewer, look_of}
 use Rattle.pages.specs.Framed.{Framed, accessed_at, read_byte, write_byte}
 use Rattle.pages.proofs.ReachLaws.{fewer_left, fewer_right, fewer_above}
 use Rattle.fields.specs.Direct.{or_else, look_field, note_field, move_field, compare_field}

@@ -4,10 +4,8 @@ use Rattle.words.specs.Pick.{pick}
 use Rattle.words.specs.Codes.{compare_bits}
 use Rattle.pages.specs.declared.Access.{Access}
 use Rattle.pages.specs.declared.Access.TheVariants.{Load, Store}
-use Rattle.pages.specs.declared.Look.{Look}
-use Rattle.pages.specs.declared.Look.TheVariants.{At}
 use Rattle.pages.specs.Word.{page_of, next, written}
-use Rattle.pages.specs.Look.{look_of}
+use Rattle.pages.specs.Look.{Look, At, look_of}
 use Rattle.pages.specs.Framed.{Framed, framed_of, written_at, read_byte, write_byte}
 use Rattle.pages.proofs.ReachLaws.{reach_behind, reach_next, reach_page, reach_some}
 use Rattle.pages.proofs.Marks.{written_quiet, look_quiet, written_again}

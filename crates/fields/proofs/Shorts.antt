@@ -1,12 +1,13 @@
 -- Short stretches by real address: moved by their two ends, and compared word by word.
-use Rattle.std.proofs.Common.{◌≡◌, ℕ, zero, suc, ◌+◌, ◌-◌, ◌*◌, ◌/◌, ◌%◌, ◌<◌, ◌≤◌, Bool, true, false, eqb, ltb, leb, ◌≢◌, List, [], ◌∷◌, get_or, set, sym, refl, ap, ◌∙◌, arith, get_or-set_other, w8, w32, Fits, ltb-false, ltb-true, le-ltb, lt-ltb, eq-eqb, ne_eqb, le-leb, leb-true}
+use Rattle.std.proofs.Common.{◌≡◌, ℕ, zero, suc, ◌+◌, ◌-◌, ◌*◌, ◌/◌, ◌<◌, ◌≤◌, Bool, true, false, eqb, ltb, leb, ◌≢◌, List, [], ◌∷◌, ◌++◌, length, take, drop, get_or, set, sym, refl, ap, ◌∙◌, arith, get_or-set_other, length-set, w8, w32, Fits, ltb-false, ltb-true, le-ltb, lt-ltb, eq-eqb, ne_eqb, le-leb, leb-true}
+use Rattle.std.proofs.lemmas.List.{drop_more}
+use borrow.Rule.Slice.PartMut.{put_mid}
 use native.Mathlib.Numerals.{unary_clauses}
 use borrow.Author.Tests.{lt-leb}
 use Rattle.words.specs.Pick.{pick}
 use Rattle.words.specs.Codes.{compare_bits}
-use Rattle.fields.specs.Direct.{flat, flat_put, flat_move, flat_compare}
+use Rattle.fields.specs.Direct.{flat, flat_move, flat_compare}
 use Rattle.fields.specs.Apart.{apart}
-use Rattle.fields.proofs.Widths.{flat_word, put_word_is}
 use Rattle.fields.proofs.Stretches.{flat_compare_on, alike_fewer, alike_more, alike_first, alike_flat, flat_alike}
 
 -- n bytes of one memory laid into another
@@ -58,38 +59,34 @@ laid_on (suc k) m mem a b (suc p) q h l =
     let e : suc k + q ≡ suc (k + q) = omega arith in
     rw (i, j, e) (laid_on k (set m a (get_or mem b 0)) mem (a + 1) (b + 1) p q (omega arith) (omega arith))
 
--- the digits of a number of four bytes
-module _ (x y z w : ℕ) (hx : x < 256) (hy : y < 256) (hz : z < 256) (hw : w < 256) where
-  digit_one : x ≡ (x * 16777216 + y * 65536 + z * 256 + w) / 16777216 % 256
-  digit_one = omega arith
-
-  digit_two : y ≡ (x * 16777216 + y * 65536 + z * 256 + w) / 65536 % 256
-  digit_two = omega arith
-
-  digit_three : z ≡ (x * 16777216 + y * 65536 + z * 256 + w) / 256 % 256
-  digit_three = omega arith
-
-  digit_four : w ≡ (x * 16777216 + y * 65536 + z * 256 + w) % 256
-  digit_four = omega arith
-
-  put_digits : (m : List ℕ) (a : ℕ)
-      → set (set (set (set m a x) (a + 1) y) (a + 2) z) (a + 3) w ≡ flat_put m a 4 (x * 16777216 + y * 65536 + z * 256 + w)
-  put_digits m a =
-      let n = set m a x in
-      let o = set n (a + 1) y in
-      let p = set o (a + 2) z in
-      put_word_is m a (x * 16777216 + y * 65536 + z * 256 + w) n o p (set p (a + 3) w)
-      (ap (set m a) digit_one) (ap (set n (a + 1)) digit_two) (ap (set o (a + 2)) digit_three) (ap (set p (a + 3)) digit_four)
-
--- a word that was read, stored, is four bytes laid
-laid_word : (m mem : List ℕ) (a b : ℕ) → ((i : ℕ) → get_or mem i 0 < 256) → flat_put m a 4 (flat mem b 4 0) ≡ laid m mem a b 4
+-- what is laid, as surgery on lists
+length-laid : (n : ℕ) (m mem : List ℕ) (a b : ℕ) → length (laid m mem a b n) ≡ length m
 unfolding laid
-laid_word m mem a b k =
-    let i : a + 1 + 1 ≡ a + 2 = omega arith in
-    let j : a + 2 + 1 ≡ a + 3 = omega arith in
-    let f : b + 1 + 1 ≡ b + 2 = omega arith in
-    let g : b + 2 + 1 ≡ b + 3 = omega arith in
-    rw (← flat_word mem b, i, j, f, g) (sym (put_digits _ _ _ _ (k b) (k (b + 1)) (k (b + 2)) (k (b + 3)) m a))
+length-laid zero m mem a b = refl
+length-laid (suc n) m mem a b = length-laid n (set m a (get_or mem b 0)) mem (a + 1) (b + 1) ∙ length-set m a (get_or mem b 0)
+
+laid_behind : (n y : ℕ) (ys mem : List ℕ) (a b : ℕ) → laid (y ∷ ys) mem (suc a) b n ≡ y ∷ laid ys mem a b n
+unfolding laid
+laid_behind zero y ys mem a b = refl
+laid_behind (suc n) y ys mem a b =
+    let i : suc a + 1 ≡ suc (a + 1) = omega arith in
+    rw i (laid_behind n y (set ys a (get_or mem b 0)) mem (a + 1) (b + 1))
+
+laid_in_front : (n : ℕ) (m mem : List ℕ) (b : ℕ) → n ≤ length m → b + n ≤ length mem → laid m mem 0 b n ≡ take n (drop b mem) ++ drop n m
+unfolding laid
+laid_in_front zero m mem b h l = refl
+laid_in_front (suc n) [] mem b h l = absurd (omega arith)
+laid_in_front (suc n) (y ∷ ys) mem b h l =
+    laid_behind n (get_or mem b 0) ys mem 0 (b + 1)
+    ∙ ap (λ (r : List ℕ). get_or mem b 0 ∷ r) (laid_in_front n ys mem (b + 1) (omega arith) (omega arith))
+    ∙ ap (λ (r : List ℕ). take (suc n) r ++ drop n ys) (sym (drop_more mem b 0 (omega arith)))
+
+laid_is_put : (a n : ℕ) (m mem : List ℕ) (b : ℕ) → a + n ≤ length m → b + n ≤ length mem
+    → laid m mem a b n ≡ put_mid a n m (take n (drop b mem))
+laid_is_put zero n m mem b h l = laid_in_front n m mem b (omega arith) l
+laid_is_put (suc a) n [] mem b h l = absurd (omega arith)
+laid_is_put (suc a) n (y ∷ ys) mem b h l =
+    laid_behind n y ys mem a b ∙ ap (λ (r : List ℕ). y ∷ r) (laid_is_put a n ys mem b (omega arith) l)
 
 pub apart_left : (to from n : ℕ) → to ≤ from → true ≡ apart to from n
 unfolding apart
@@ -124,39 +121,23 @@ off_laid (suc n) m mem to from h k =
 move_is_laid : (n : ℕ) (mem : List ℕ) (to from : ℕ) → apart to from n ≡ true → flat_move mem to from n ≡ laid mem mem to from n
 move_is_laid n mem to from h = off_laid n mem mem to from (apart_off to from n h) (λ d l. refl)
 
--- one to three bytes, by their ends and their middle
-pub ones_moved : (mem : List ℕ) (to from n : ℕ) → 0 < n → n ≤ 3 → apart to from n ≡ true
-    → set (set (set mem to (get_or mem from 0)) (to + n / 2) (get_or mem (from + n / 2) 0)) (to + n - 1) (get_or mem (from + n - 1) 0)
-    ≡ flat_move mem to from n
-unfolding laid
-ones_moved mem to from n p h e =
-    let i : to + n - 1 ≡ to + (n - 1) = omega arith in
-    let j : from + n - 1 ≡ from + (n - 1) = omega arith in
-    let l : n - 1 + 1 ≡ n = omega arith in
-    rw (i, j)
-    (ap (λ (m : List ℕ). laid m mem (to + (n - 1)) (from + (n - 1)) 1) (laid_on (n / 2) mem mem to from 1 1 (omega arith) (omega arith))
-    ∙ laid_on (n - 1) mem mem to from (n / 2 + 1) 1 (omega arith) (omega arith)
-    ∙ rw l (sym (move_is_laid n mem to from e)))
-
--- words that were read before any was stored
-module _ (mem : List ℕ) (bytes : (i : ℕ) → get_or mem i 0 < 256) where
-  pub put_laid : (m n : List ℕ) (a b v : ℕ) → v ≡ flat mem b 4 0 → n ≡ flat_put m a 4 v → n ≡ laid m mem a b 4
-  put_laid m n a b v ev en = en ∙ ap (flat_put m a 4) ev ∙ laid_word m mem a b bytes
-
-  pub put_next : (p : ℕ) (m n o : List ℕ) (a b v : ℕ) → n ≡ laid m mem a b p → v ≡ flat mem (b + p) 4 0 → o ≡ flat_put n (a + p) 4 v
-      → o ≡ laid m mem a b (p + 4)
-  put_next p m n o a b v en ev eo =
-      put_laid n o (a + p) (b + p) v ev eo
-      ∙ ap (λ (x : List ℕ). laid x mem (a + p) (b + p) 4) en
-      ∙ laid_on p m mem a b p 4 (omega arith) (omega arith)
-
-  pub ends_met : (k q : ℕ) (m n : List ℕ) (to from : ℕ) → k ≤ q → apart to from (k + q) ≡ true → m ≡ laid mem mem to from q
-      → n ≡ laid m mem (to + k) (from + k) q → n ≡ flat_move mem to from (k + q)
-  ends_met k q m n to from h e em en =
-      en
-      ∙ ap (λ (x : List ℕ). laid x mem (to + k) (from + k) q) em
-      ∙ laid_on k mem mem to from q q h (omega arith)
-      ∙ sym (move_is_laid (k + q) mem to from e)
+-- p bytes from each end of n, read before any is stored
+pub ends_met : (n p i j : ℕ) (mem xs ys : List ℕ) (to from : ℕ) → p ≤ n → n ≤ p + p → apart to from n ≡ true
+    → to + n ≤ length mem → from + n ≤ length mem → p ≡ i → p ≡ j
+    → xs ≡ take p (drop from mem) → ys ≡ take p (drop (from + (n - p)) mem)
+    → put_mid (to + (n - p)) j (put_mid to i mem xs) ys ≡ flat_move mem to from n
+ends_met n p i j mem xs ys to from h l e t f ei ej ex ey =
+    let k = n - p in
+    let m = laid mem mem to from p in
+    let one : put_mid to i mem xs ≡ m =
+    rw (← ei, ex) (sym (laid_is_put to p mem mem from (omega arith) (omega arith))) in
+    let two : put_mid (to + k) j m ys ≡ laid m mem (to + k) (from + k) p =
+    rw (← ej, ey) (sym (laid_is_put (to + k) p m mem (from + k) (omega (arith, length-laid p mem mem to from)) (omega arith))) in
+    let all : k + p ≡ n = omega arith in
+    ap (λ (z : List ℕ). put_mid (to + k) j z ys) one
+    ∙ two
+    ∙ laid_on k mem mem to from p p (omega arith) (omega arith)
+    ∙ rw all (sym (move_is_laid n mem to from e))
 
 -- the code of two numbers
 module _ (x y : ℕ) where
@@ -317,10 +298,6 @@ module _ (mem : List ℕ) (a b k : ℕ) (bytes : (i : ℕ) → get_or mem i 0 < 
   four_second x y v w r ex ey e ev ew er =
       let z : compare_bits v w ≡ flat_compare mem (a + k) (b + k) 4 = rw (ev, ew) (word_order mem (a + k) (b + k) bytes) in
       er ∙ z ∙ alike_then 4 mem a b k 4 (flat_alike 4 mem a b 0 0 bytes (sym ex ∙ e ∙ ey)).1 h
-
--- what is known of a slice's bytes
-pub below : (mem : List ℕ) → ((i : ℕ) → Fits w8 (get_or mem i 0)) → (i : ℕ) → get_or mem i 0 < 256
-below mem h i = omega (arith, (h i).fits)
 
 pub wider : (n : ℕ) → Fits w8 n → Fits w32 n
 wider n h = record { fits = omega (arith, h.fits) }

@@ -4,10 +4,8 @@ use Rattle.std.proofs.Common.{◌≡◌, ℕ, zero, suc, ◌+◌, ◌-◌, ◌%�
 use Rattle.words.proofs.Choice.{by_order}
 use Rattle.pages.specs.declared.Access.{Access}
 use Rattle.pages.specs.declared.Access.TheVariants.{Load, Store}
-use Rattle.pages.specs.declared.Look.{Look}
-use Rattle.pages.specs.declared.Look.TheVariants.{At}
 use Rattle.pages.specs.Word.{page_of, next, written}
-use Rattle.pages.specs.Look.{fewer, look_of}
+use Rattle.pages.specs.Look.{Look, At, fewer, look_of}
 use Rattle.pages.specs.Framed.{framed_of, accessed_at, written_at}
 use Rattle.pages.proofs.ReachLaws.{fewer_left, fewer_right, fewer_above, reach_behind, reach_below, reach_fits, reach_inside}
 use Rattle.pages.proofs.Marks.{written_quiet, look_quiet}

@@ -1,14 +1,11 @@
 -- The two fields of a move or a compare, n bytes each: every byte of both is looked up, first field, then second; only then are they
 -- marked, and moved or compared. A refusal alters nothing.
-use Rattle.std.specs.Prelude.{ℕ, List, [], ◌∷◌}
+use Rattle.std.specs.Prelude.{ℕ, List, [], ◌∷◌, Result, Ok, Err}
 use Rattle.pages.specs.declared.Access.{Access}
 use Rattle.pages.specs.declared.Access.TheVariants.{Load}
-use Rattle.pages.specs.declared.Look.{Look}
-use Rattle.pages.specs.declared.Look.TheVariants.{At, Refused}
-use Rattle.pages.specs.Look.{look_of}
+use Rattle.pages.specs.declared.Refusal.{Refusal}
+use Rattle.pages.specs.Look.{Look, look_of}
 use Rattle.pages.specs.Framed.{Framed, framed_of}
-use Rattle.fields.specs.declared.Order.{Order}
-use Rattle.fields.specs.declared.Order.TheVariants.{Code, Barred}
 use Rattle.fields.specs.Direct.{look_fields, note_field, move_field, compare_field}
 
 -- the first refusal, or the first byte's look-up; acc is what the first field is wanted for
@@ -21,15 +18,18 @@ note_both map a b n = note_field (note_field map a n) b n
 
 -- memory and map after a move, by what the look-ups said
 abbrev pub moved_by : Look → List ℕ → List ℕ → ℕ → ℕ → ℕ → Framed
-moved_by (At r k) mem map a b n = move_field (framed_of mem (note_both map a b n)) a b n
-moved_by (Refused c p) mem map a b n = framed_of mem map
+moved_by (Ok s) mem map a b n = move_field (framed_of mem (note_both map a b n)) a b n
+moved_by (Err e) mem map a b n = framed_of mem map
 
--- a compare's answer: the code, or the refusal
+-- a compare's answer: the condition code, or the refusal
+abbrev pub Order : Type 0
+Order = Result ℕ Refusal
+
 abbrev pub order_of : Look → List ℕ → List ℕ → ℕ → ℕ → ℕ → Order
-order_of (At r k) mem map a b n = Code (compare_field (framed_of mem (note_both map a b n)) a b n)
-order_of (Refused c p) mem map a b n = Barred c p
+order_of (Ok s) mem map a b n = Ok (compare_field (framed_of mem (note_both map a b n)) a b n)
+order_of (Err e) mem map a b n = Err e
 
 -- the map after it
 abbrev pub noted_by : Look → List ℕ → ℕ → ℕ → ℕ → List ℕ
-noted_by (At r k) map a b n = note_both map a b n
-noted_by (Refused c p) map a b n = map
+noted_by (Ok s) map a b n = note_both map a b n
+noted_by (Err e) map a b n = map

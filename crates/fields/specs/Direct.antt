@@ -1,12 +1,11 @@
 -- Fields of bytes, directly: looked up in the store as it stands, noted, read, written, moved and compared.
-use Rattle.std.specs.Prelude.{◌≡◌, ℕ, zero, suc, ◌+◌, ◌-◌, ◌*◌, ◌/◌, ◌%◌, ◌^◌, List, [], ◌∷◌, ◌==◌, nat_lt, slice_index, slice_set}
+use Rattle.std.specs.Prelude.{◌≡◌, ℕ, zero, suc, ◌+◌, ◌-◌, ◌*◌, ◌/◌, ◌%◌, ◌^◌, List, [], ◌∷◌, ◌==◌, nat_lt, slice_index, slice_set, Ok, Err}
 use Rattle.words.specs.Pick.{pick}
 use Rattle.words.specs.Codes.{compare_bits}
 use Rattle.pages.specs.declared.Access.{Access}
-use Rattle.pages.specs.declared.Look.{Look}
-use Rattle.pages.specs.declared.Look.TheVariants.{At, Refused}
+use Rattle.pages.specs.declared.Refusal.{Refusal}
 use Rattle.pages.specs.Word.{next}
-use Rattle.pages.specs.Look.{look_of}
+use Rattle.pages.specs.Look.{Look, look_of}
 use Rattle.pages.specs.Framed.{Framed, accessed_at, read_byte, write_byte}
 use Rattle.fields.specs.declared.Field.{Field}
 
@@ -16,8 +15,8 @@ in_page a = pick (nat_lt a 16777216) (4096 - a % 4096) 1
 
 -- a refusal, or what comes next
 abbrev pub or_else : Look → Look → Look
-or_else (At r k) rest = rest
-or_else (Refused c a) rest = Refused c a
+or_else (Ok s) rest = rest
+or_else (Err e) rest = Err e
 
 -- n bytes from a on: the first refusal, or what `rest` says
 unfoldable pub look_field : List ℕ → ℕ → Access → ℕ → ℕ → Look → Look
@@ -32,6 +31,10 @@ look_fields map size (f ∷ fs) rest = look_field map size f.access f.at f.len (
 -- no byte of the field is refused
 abbrev pub Clear : List ℕ → ℕ → Access → ℕ → ℕ → Type 0
 Clear map size acc a n = (rest : Look) → look_field map size acc a n rest ≡ rest
+
+-- one of them is refused with e
+abbrev pub Stops : List ℕ → ℕ → Access → ℕ → ℕ → Refusal → Type 0
+Stops map size acc a n e = (rest : Look) → look_field map size acc a n rest ≡ Err e
 
 -- one field: the first refusal, or the look-up of its first byte
 unfoldable pub look_one : List ℕ → ℕ → Access → ℕ → ℕ → Look

@@ -3,8 +3,7 @@ use Rattle.std.specs.Prelude.{◌≡◌, ℕ, ◌+◌, ◌-◌, ◌%◌, ◌<◌
 use Rattle.words.specs.Pick.{pick}
 use Rattle.pages.specs.declared.Access.{Access}
 use Rattle.pages.specs.declared.Access.TheVariants.{Fetch, Load, Store}
-use Rattle.pages.specs.declared.Look.TheVariants.{At}
-use Rattle.pages.specs.Look.{look_of}
+use Rattle.pages.specs.Look.{At, look_of}
 use Rattle.lookup.specs.Marked.{Found}
 use Rattle.fields.specs.declared.Span.{Span}
 use Rattle.fields.specs.Direct.{flat_move}

@@ -1,5 +1,5 @@
-// Stretches of memory by real address: moved left to right, and compared. What goes many bytes at a time is the compiler's work, on loops of
-// a form that it knows (docs/PERFORMANCE.md shows what it makes of them).
+// Stretches of memory by real address: moved left to right, and compared. What goes many bytes at a time is the compiler's work, on loops
+// of a form that it knows (docs/PERFORMANCE.md shows what it makes of them).
 ghost use Rattle.std.specs.Prelude.{◌≡◌, ◌+◌, ◌<◌, ◌≤◌, true, false, length};
 ghost use Rattle.words.specs.Codes.{compare_bits};
 ghost use Rattle.fields.specs.Direct.{flat_move, flat_fill, flat_compare};
@@ -12,12 +12,8 @@ fn fill(mem: &mut [u8], to: usize, v: u8, len: u32)
     requires { to + len ≤ length mem.old }
     ensures { mem.new ≡ flat_fill mem.old to v len }
 {
-    let mut a = to;
-    let mut left = len;
-    while 0 < left {
-        mem[a] = v;
-        a = a + 1;
-        left = left - 1;
+    for i in 0..len as usize {
+        mem[to + i] = v;
     }
 }
 
@@ -26,14 +22,8 @@ fn move_on(mem: &mut [u8], to: usize, from: usize, len: u32)
     requires { (to + len ≤ length mem.old) × (from + len ≤ length mem.old) }
     ensures { mem.new ≡ flat_move mem.old to from len }
 {
-    let mut a = to;
-    let mut b = from;
-    let mut left = len;
-    while 0 < left {
-        mem[a] = mem[b];
-        a = a + 1;
-        b = b + 1;
-        left = left - 1;
+    for i in 0..len as usize {
+        mem[to + i] = mem[from + i];
     }
 }
 
@@ -48,67 +38,18 @@ pub fn are_apart(to: usize, from: usize, len: usize) -> bool
     from + len <= to
 }
 
-// One to three bytes: the first, the middle one and the last, all read before any is stored, so that they may be the same.
-fn ends_one(mem: &mut [u8], to: usize, from: usize, n: usize)
-    requires { (0 < n) × (n ≤ 3) × (apart to from n ≡ true) × (to + n ≤ length mem.old) × (from + n ≤ length mem.old) }
+// N to 2N bytes by their two ends, N bytes each and both read before any is stored, so that they may lap over each other.
+fn ends<const N: usize>(mem: &mut [u8], to: usize, from: usize, n: usize)
+    requires { (N ≤ n) × (n ≤ N + N) × (apart to from n ≡ true) × (to + n ≤ length mem.old) × (from + n ≤ length mem.old) }
     ensures { mem.new ≡ flat_move mem.old to from n }
 {
-    let k = n / 2;
-    let u = mem[from];
-    let v = mem[from + k];
-    let w = mem[from + n - 1];
-    mem[to] = u;
-    mem[to + k] = v;
-    mem[to + n - 1] = w;
-}
-
-// The two ends of a stretch, a word each and k bytes from one to the other, both read before any is stored: they may lap over each other.
-fn ends_four(mem: &mut [u8], to: usize, from: usize, k: usize)
-    requires { (k ≤ 4) × (apart to from (k + 4) ≡ true) × (to + (k + 4) ≤ length mem.old) × (from + (k + 4) ≤ length mem.old) }
-    ensures { mem.new ≡ flat_move mem.old to from (k + 4) }
-{
-    let v = flat::word_of(mem, from);
-    let w = flat::word_of(mem, from + k);
-    flat::put_word(mem, to, v);
-    flat::put_word(mem, to + k, w);
-}
-
-// The same, two words each.
-fn ends_eight(mem: &mut [u8], to: usize, from: usize, k: usize)
-    requires { (k ≤ 8) × (apart to from (k + 8) ≡ true) × (to + (k + 8) ≤ length mem.old) × (from + (k + 8) ≤ length mem.old) }
-    ensures { mem.new ≡ flat_move mem.old to from (k + 8) }
-{
-    let v = flat::word_of(mem, from);
-    let w = flat::word_of(mem, from + 4);
-    let x = flat::word_of(mem, from + k);
-    let y = flat::word_of(mem, from + k + 4);
-    flat::put_word(mem, to, v);
-    flat::put_word(mem, to + 4, w);
-    flat::put_word(mem, to + k, x);
-    flat::put_word(mem, to + k + 4, y);
-}
-
-// The same, four words each.
-fn ends_sixteen(mem: &mut [u8], to: usize, from: usize, k: usize)
-    requires { (k ≤ 16) × (apart to from (k + 16) ≡ true) × (to + (k + 16) ≤ length mem.old) × (from + (k + 16) ≤ length mem.old) }
-    ensures { mem.new ≡ flat_move mem.old to from (k + 16) }
-{
-    let a = flat::word_of(mem, from);
-    let b = flat::word_of(mem, from + 4);
-    let c = flat::word_of(mem, from + 8);
-    let d = flat::word_of(mem, from + 12);
-    let e = flat::word_of(mem, from + k);
-    let f = flat::word_of(mem, from + k + 4);
-    let g = flat::word_of(mem, from + k + 8);
-    let h = flat::word_of(mem, from + k + 12);
-    flat::put_word(mem, to, a);
-    flat::put_word(mem, to + 4, b);
-    flat::put_word(mem, to + 8, c);
-    flat::put_word(mem, to + 12, d);
-    flat::put_word(mem, to + k, e);
-    flat::put_word(mem, to + k + 4, f);
-    flat::put_word(mem, to + k + 8, g);
-    flat::put_word(mem, to + k + 12, h);
+    let k = n - N;
+    let mut left = [0; N];
+    let mut right = [0; N];
+    left.copy_from_slice(&mem[from..from + N]);
+    right.copy_from_slice(&mem[from + k..from + n]);
+    mem[to..to + N].copy_from_slice(&left);
+    mem[to + k..to + n].copy_from_slice(&right);
 }
 
 // A move of few bytes that does not run into itself, by its two ends and with no loop.
@@ -116,19 +57,23 @@ pub fn move_short(mem: &mut [u8], to: usize, from: usize, n: usize)
     requires { (0 < n) × (n ≤ 32) × (apart to from n ≡ true) × (to + n ≤ length mem.old) × (from + n ≤ length mem.old) }
     ensures { mem.new ≡ flat_move mem.old to from n }
 {
-    if n < 4 {
-        ends_one(mem, to, from, n);
+    if n < 3 {
+        ends::<1>(mem, to, from, n);
+        return;
+    }
+    if n < 5 {
+        ends::<2>(mem, to, from, n);
         return;
     }
     if n < 9 {
-        ends_four(mem, to, from, n - 4);
+        ends::<4>(mem, to, from, n);
         return;
     }
     if n < 17 {
-        ends_eight(mem, to, from, n - 8);
+        ends::<8>(mem, to, from, n);
         return;
     }
-    ends_sixteen(mem, to, from, n - 16);
+    ends::<16>(mem, to, from, n);
 }
 
 // Left to right, byte by byte. One byte to the right, each byte stored is the one read next, so that the first fills all the rest.
@@ -157,13 +102,11 @@ fn is_alike(mem: &[u8], first: usize, second: usize, n: usize) -> bool
     ensures { (result ≡ true → flat_compare mem.now first second n ≡ 0) × (flat_compare mem.now first second n ≡ 0 → result ≡ true) }
 {
     let mut most: u8 = 0;
-    let mut i: usize = 0;
-    while i < n {
+    for i in 0..n {
         let d = apart(mem[first + i], mem[second + i]);
         if most < d {
             most = d;
         }
-        i = i + 1;
     }
     most == 0
 }
@@ -184,64 +127,57 @@ fn compare_on(mem: &[u8], first: usize, second: usize, len: u32) -> u32
     requires { (first + len ≤ length mem.now) × (second + len ≤ length mem.now) }
     ensures { result ≡ flat_compare mem.now first second len }
 {
-    let mut a = first;
-    let mut b = second;
-    let mut left = len;
-    while 0 < left {
-        let x = mem[a];
-        let y = mem[b];
+    for i in 0..len as usize {
+        let x = mem[first + i];
+        let y = mem[second + i];
         if x != y {
-            if x < y {
-                return 1;
-            }
-            return 2;
+            return if x < y { 1 } else { 2 };
         }
-        a = a + 1;
-        b = b + 1;
-        left = left - 1;
     }
     0
 }
 
-// The same by eights as long as they are alike; the first eight that is not, and what is left, byte by byte.
-fn compare_eights(mem: &[u8], first: usize, second: usize, len: u32) -> u32
-    requires { (first + len ≤ length mem.now) × (second + len ≤ length mem.now) }
-    ensures { result ≡ flat_compare mem.now first second len }
+// Past the stretches of N bytes that are alike, as `is_same` tells of each, to the first one that is not: where what is left begins in
+// either field, and how long it is.
+fn past_alike<const N: u32, F: Fn(usize, usize) -> bool>(
+    mem: &[u8],
+    first: usize,
+    second: usize,
+    len: u32,
+    is_same: F,
+) -> (usize, usize, u32)
+    requires within { (0 < N) × (first + len ≤ length mem.now) × (second + len ≤ length mem.now) }
+    requires asked { (a b : _) → a + N ≤ length mem.now → b + N ≤ length mem.now → F.pre is_same a b }
+    requires told { (a b : _) → F.post is_same a b true → flat_compare mem.now a b N ≡ 0 }
+    ensures same { flat_compare mem.now first second len ≡ flat_compare mem.now result.0 result.1 result.2 }
+    ensures within { (result.0 + result.2 ≤ length mem.now) × (result.1 + result.2 ≤ length mem.now) }
 {
     let mut a = first;
     let mut b = second;
     let mut left = len;
-    while 8 <= left {
-        if !is_eight(mem, a, b) {
+    while N <= left {
+        if !is_same(a, b) {
             break;
         }
-        a = a + 8;
-        b = b + 8;
-        left = left - 8;
+        a += N as usize;
+        b += N as usize;
+        left -= N;
     }
-    compare_on(mem, a, b, left)
+    (a, b, left)
 }
 
-// The same by stretches of 64 bytes first.
+// By stretches of 64 bytes as long as they are alike, then by eights; the first eight that is not, and what is left, byte by byte.
 pub fn compare_flat(mem: &[u8], first: usize, second: usize, len: u32) -> u32
     requires { (first + len ≤ length mem.now) × (second + len ≤ length mem.now) }
     ensures { result ≡ flat_compare mem.now first second len }
 {
-    let mut a = first;
-    let mut b = second;
-    let mut left = len;
-    while 64 <= left {
-        if !is_alike(mem, a, b, 64) {
-            break;
-        }
-        a = a + 64;
-        b = b + 64;
-        left = left - 64;
-    }
-    compare_eights(mem, a, b, left)
+    let (a, b, left) = past_alike::<64, _>(mem, first, second, len, |a, b| is_alike(mem, a, b, 64));
+    let (a, b, left) = past_alike::<8, _>(mem, a, b, left, |a, b| is_eight(mem, a, b));
+    compare_on(mem, a, b, left)
 }
 
-// 0 equal, 1 first low, 2 first high.
+// 0 equal, 1 first low, 2 first high. (As in arithmetic, which this crate does not stand on. The bytes below are cast: with `from` their
+// answers did not close.)
 fn order_of(x: u32, y: u32) -> u32
     ensures { result ≡ compare_bits x y }
 {

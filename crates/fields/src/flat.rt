@@ -5,12 +5,6 @@ ghost use Rattle.fields.specs.Direct.{flat, flat_put};
 
 use code::Width;
 
-fn wide(b: u8) -> u32
-    ensures { (result ≡ b) × (result < 256) }
-{
-    b as u32
-}
-
 pub fn byte_of(mem: &[u8], r: usize) -> u8
     requires { r < length mem.now }
     ensures { result ≡ slice_index mem.now r }
@@ -22,7 +16,7 @@ pub fn half_of(mem: &[u8], r: usize) -> u16
     requires { r + 2 ≤ length mem.now }
     ensures { result ≡ flat mem.now r 2 0 }
 {
-    let v = wide(mem[r]) * 256 + wide(mem[r + 1]);
+    let v = u32::from(mem[r]) * 256 + u32::from(mem[r + 1]);
     v as u16
 }
 
@@ -31,7 +25,10 @@ pub fn word_of(mem: &[u8], r: usize) -> u32
     requires { r + 4 ≤ length mem.now }
     ensures { result ≡ flat mem.now r 4 0 }
 {
-    wide(mem[r]) * 16777216 + wide(mem[r + 1]) * 65536 + wide(mem[r + 2]) * 256 + wide(mem[r + 3])
+    u32::from(mem[r]) * 16777216
+        + u32::from(mem[r + 1]) * 65536
+        + u32::from(mem[r + 2]) * 256
+        + u32::from(mem[r + 3])
 }
 
 pub fn put_byte(mem: &mut [u8], r: usize, v: u8)

@@ -7,14 +7,14 @@ pub mod each; // each.rt: a move and a compare byte by byte, the plain way
 pub mod flat; // flat.rt: operands by real address
 pub mod spans; // spans.rt: a move and a compare over a page's edge, stretch by stretch
 
-ghost use Rattle.std.specs.Prelude.{◌≡◌, ◌+◌, ◌%◌, ◌<◌, ◌≤◌, not, [], ◌∷◌, length, ◌==◌};
+ghost use Rattle.std.specs.Prelude.{◌≡◌, ◌+◌, ◌%◌, ◌<◌, ◌≤◌, not, [], ◌∷◌, length, ◌==◌, MatchResult};
 ghost use Rattle.machine.specs.Fields.{bytes_of};
 ghost use Rattle.pages.specs.Framed.{framed_of};
 ghost use Rattle.pages.specs.Look.{look_of};
-ghost use Rattle.fields.specs.Direct.{in_page, look_fields, look_one, note_field, read_field};
+ghost use Rattle.fields.specs.Direct.{in_page, look_fields, look_one, note_field, read_field, Clear, Stops};
 
 use code::Width;
-use pages::{Access, Cause, Look};
+use pages::{Access, Cause, Refusal, Spot};
 
 // So many bytes from an address on, and what they are wanted for.
 #[derive(Clone, Copy)]
@@ -32,84 +32,68 @@ pub struct Span {
     pub on: usize,
 }
 
-// What a compare comes to: the condition code, or the refusal.
-#[derive(Clone, Copy)]
-pub enum Order {
-    Code(u32),
-    Barred(Cause, u32),
-}
-
-fn look_first(map: &[u16], size: usize, f: Field) -> Look
-    ensures { result ≡ look_of map.now size f.access f.at }
+// Every byte of a field is looked up, going on by what each look-up reached, until one is refused.
+fn look_field(map: &[u16], size: usize, field: Field) -> Result<(), Refusal>
+    ensures { MatchResult result (λ _. Clear map.now size field.access field.at field.len) (λ e. Stops map.now size field.access field.at field.len e) }
 {
-    let access = f.access;
-    lookup::look_up(map, size, access, f.at)
+    let mut at = field.at;
+    let mut left = field.len;
+    // No `for`: a look-up says how far the next one lies.
+    while 0 < left {
+        let found = lookup::look_up(map, size, field.access, at)?;
+        let step = lookup::fewer_of(left, found.reach as usize);
+        at = lookup::past_of(at, step);
+        left -= step;
+    }
+    Ok(())
 }
 
-// Every byte of both fields is looked up, first field, then second, going on by what each look-up reached: the first refusal, or the first
-// byte's look-up.
-pub fn look_each(map: &[u16], size: usize, first: Field, second: Field) -> Look
+// Both fields, first field, then second: the first refusal, or the first byte's look-up.
+pub fn look_each(map: &[u16], size: usize, first: Field, second: Field) -> Result<Spot, Refusal>
     ensures { result ≡ look_fields map.now size (first ∷ second ∷ []) (look_of map.now size first.access first.at) }
 {
-    let fields = [first, second];
-    let mut found = look_first(map, size, first);
-    let mut k: usize = 0;
-    'fields: while k < 2 {
-        let field = fields[k];
-        let access = field.access;
-        let mut at = field.at;
-        let mut left = field.len;
-        while 0 < left {
-            let look = lookup::look_up(map, size, access, at);
-            let Look::At(_, reach) = look else {
-                found = look;
-                break 'fields;
-            };
-            let step = lookup::fewer_of(left, reach as usize);
-            at = lookup::past_of(at, step);
-            left = left - step;
-        }
-        k = k + 1;
-    }
-    found
+    look_field(map, size, first)?;
+    look_field(map, size, second)?;
+    lookup::look_up(map, size, first.access, first.at)
 }
 
 // One field: its first look-up decides wherever it reaches.
-pub fn look_one(map: &[u16], size: usize, access: Access, at: u32, len: u32) -> Look
+pub fn look_one(
+    map: &[u16],
+    size: usize,
+    access: Access,
+    at: u32,
+    len: u32,
+) -> Result<Spot, Refusal>
     ensures { result ≡ look_one map.now size access at len }
 {
-    let found = lookup::look_up(map, size, access, at);
-    if let Look::At(_, reach) = found {
-        if len <= reach {
-            return found;
-        }
+    let found = lookup::look_up(map, size, access, at)?;
+    if len <= found.reach {
+        return Ok(found);
     }
-    let field = Field {
-        access: access,
-        at: at,
-        len: len,
-    };
-    let nothing = Field {
-        access: access,
-        at: at,
-        len: 0,
-    };
-    look_each(map, size, field, nothing)
+    look_field(map, size, Field { access, at, len })?;
+    Ok(found)
 }
 
 // An operand on its boundary: it lies in one page, so that where the look-up does not reach its end, memory ends within it.
-pub fn look_operand(map: &[u16], size: usize, access: Access, at: u32, len: u32) -> Look
+pub fn look_operand(
+    map: &[u16],
+    size: usize,
+    access: Access,
+    at: u32,
+    len: u32,
+) -> Result<Spot, Refusal>
     requires { at % 2048 + len ≤ 2048 }
     ensures { result ≡ look_one map.now size access at len }
 {
-    let found = lookup::look_up(map, size, access, at);
-    let Look::At(_, reach) = found else {
-        return found;
-    };
-    if reach < len {
-        return Look::Refused(Cause::Addressing, at + reach);
+    let found = lookup::look_up(map, size, access, at)?;
+    if found.reach < len {
+        return Err(Refusal {
+            cause: Cause::Addressing,
+            place: at + found.reach,
+        });
     }
-    found
+    Ok(found)
 }
 
 // How many addresses from this one on have its page; past the last address the next one is 0.
@@ -125,11 +109,12 @@ pub fn note_field(map: &mut [u16], at: u32, len: u32)
 {
     let mut to = at;
     let mut left = len;
+    // No `for`: page by page, and the pages' ends lie where the address says.
     while 0 < left {
-        lookup::note(map, to);
+        lookup::mark(map, Access::Load, to);
         let step = lookup::fewer_of(left, in_page(to) as usize);
         to = lookup::past_of(to, step);
-        left = left - step;
+        left -= step;
     }
 }
 
@@ -159,19 +144,16 @@ fn half_each(mem: &[u8], map: &[u16], at: u32) -> u16
     ensures { result ≡ read_field (framed_of mem.now map.now) at 2 0 }
 {
     let high = lookup::read_byte(mem, map, at);
-    let low = lookup::read_byte(mem, map, lookup::next_of(at));
-    high as u16 * 256 + low as u16
+    let low = lookup::read_byte(mem, map, lookup::past_of(at, 1));
+    u16::from(high) * 256 + u16::from(low)
 }
 
 // A halfword; where the look-up refuses, a byte is 0.
 pub fn read_half(mem: &[u8], map: &[u16], at: u32) -> u16
     ensures { result ≡ read_field (framed_of mem.now map.now) at 2 0 }
 {
-    let found = lookup::look_up(map, mem.len(), Access::Load, at);
-    if let Look::At(r, reach) = found {
-        if 2 <= reach {
-            return flat::half_of(mem, r);
-        }
+    match lookup::look_up(map, mem.len(), Access::Load, at) {
+        Ok(found) if 2 <= found.reach => flat::half_of(mem, found.at),
+        _ => half_each(mem, map, at),
     }
-    half_each(mem, map, at)
 }

@@ -1,47 +1,42 @@
 // The quick way of a move and of a compare over the edge of a page: each field in at most two stretches, each asked for once. Cut where either
 // of them ends, so that within a piece both lie together; the pieces in order, each by the rule for its own real addresses. Whatever does
 // not lie so goes the plain way.
-ghost use Rattle.std.specs.Prelude.{◌≡◌, ◌+◌, ◌^◌, ◌<◌, ◌≤◌, true, false, length};
+ghost use Rattle.std.specs.Prelude.{◌≡◌, ◌+◌, ◌^◌, ◌<◌, ◌≤◌, true, false, length, Ok, IfSome, IsSome};
 ghost use Rattle.pages.specs.Tests.{is_store};
 ghost use Rattle.pages.specs.declared.Access.TheVariants.{Load, Store};
-ghost use Rattle.pages.specs.declared.Look.TheVariants.{At};
 ghost use Rattle.pages.specs.Look.{look_of};
 ghost use Rattle.pages.specs.Framed.{framed_of};
 ghost use Rattle.fields.specs.Spans.{spot_of, rest_of, Spans, Paged, Edged};
 ghost use Rattle.fields.specs.Direct.{note_field, Clear};
 ghost use Rattle.fields.specs.Both.{look_both, moved_by, order_of, noted_by};
 
-use crate::{Order, Span, blocks, each};
-use pages::{Access, Look};
+use crate::{Span, blocks, each};
+use pages::{Access, Refusal, Spot};
 
-// Where a field of n bytes lies whose first byte was found: in one stretch, or in two; a length of 0 where it does not lie so, which of a field
-// of at most 2,048 bytes says that a byte of it is refused.
-fn span_of(map: &[u16], size: usize, access: Access, a: u32, n: u32, at: usize, reach: u32) -> Span
-    requires { look_of map.now size access a ≡ At at reach }
-    ensures { (0 < result.len → Spans map.now size access a n result) × (0 < n → n ≤ 2048 → Clear map.now size access a n → 0 < result.len) }
+// Where a field of n bytes lies whose first byte was found: in one stretch, or in two; none where it does not lie so, which of a field of at
+// most 2,048 bytes says that a byte of it is refused.
+fn span_of(map: &[u16], size: usize, access: Access, a: u32, n: u32, first: Spot) -> Option<Span>
+    requires { (0 < n) × (look_of map.now size access a ≡ Ok first) }
+    ensures { IfSome result (λ s. (0 < s.len) × Spans map.now size access a n s) × (n ≤ 2048 → Clear map.now size access a n → IsSome result) }
 {
-    if n <= reach {
-        return Span {
-            at: at,
+    if n <= first.reach {
+        return Some(Span {
+            at: first.at,
             len: n,
             on: 0,
-        };
+        });
     }
-    let next = lookup::look_up(map, size, access, lookup::past_of(a, reach));
-    if let Look::At(on, more) = next {
-        if n - reach <= more {
-            return Span {
-                at: at,
-                len: reach,
-                on: on,
-            };
-        }
+    let Ok(next) = lookup::look_up(map, size, access, lookup::past_of(a, first.reach)) else {
+        return None;
+    };
+    if next.reach < n - first.reach {
+        return None;
     }
-    Span {
-        at: 0,
-        len: 0,
-        on: 0,
-    }
+    Some(Span {
+        at: first.at,
+        len: first.reach,
+        on: next.at,
+    })
 }
 
 // Where byte i of it lies.
@@ -71,9 +66,9 @@ fn note_span(map: &mut [u16], a: u32, n: u32, len: u32)
     requires { Paged a n len }
     ensures { map.new ≡ note_field map.old a n }
 {
-    lookup::note(map, a);
+    lookup::mark(map, Access::Load, a);
     if len < n {
-        lookup::note(map, lookup::past_of(a, len));
+        lookup::mark(map, Access::Load, lookup::past_of(a, len));
     }
 }
 
@@ -84,69 +79,64 @@ pub fn move_over(
     to: u32,
     from: u32,
     n: u32,
-    x: usize,
-    room: u32,
-    y: usize,
-    more: u32,
-) -> Look
-    requires { (0 < n) × (look_of map.old (length mem.old) Store to ≡ At x room) × (look_of map.old (length mem.old) Load from ≡ At y more) }
+    there: Spot,
+    here: Spot,
+) -> Result<Spot, Refusal>
+    requires { (0 < n) × (look_of map.old (length mem.old) Store to ≡ Ok there) × (look_of map.old (length mem.old) Load from ≡ Ok here) }
     ensures { (result ≡ look_both map.old (length mem.old) Store to from n) × (framed_of mem.new map.new ≡ moved_by result mem.old map.old to from n) }
 {
-    let s = span_of(map, mem.len(), Access::Store, to, n, x, room);
-    let t = span_of(map, mem.len(), Access::Load, from, n, y, more);
-    if s.len == 0 {
+    let Some(s) = span_of(map, mem.len(), Access::Store, to, n, there) else {
         return each::move_field(mem, map, to, from, n);
-    }
-    if t.len == 0 {
+    };
+    let Some(t) = span_of(map, mem.len(), Access::Load, from, n, here) else {
         return each::move_field(mem, map, to, from, n);
-    }
+    };
     note_span(map, to, n, s.len);
     note_span(map, from, n, t.len);
     let mut i: u32 = 0;
+    // No `for`: a piece is as long as both fields lie together.
     while i < n {
         let step = lookup::fewer_of(rest_of(s, n, i), rest_of(t, n, i) as usize);
         blocks::move_flat(mem, spot_of(s, i), spot_of(t, i), step);
         lookup::note_written(map, lookup::past_of(to, i));
-        i = i + step;
+        i += step;
     }
-    Look::At(x, room)
+    Ok(there)
 }
 
-// A compare whose first bytes were found; like each::compare_field.
+// A compare whose first bytes were found; like each::compare_field. (A function beside the move, here and in each: it is lent memory to read,
+// and answers a code.)
 pub fn compare_over(
     mem: &[u8],
     map: &mut [u16],
     first: u32,
     second: u32,
     n: u32,
-    x: usize,
-    room: u32,
-    y: usize,
-    more: u32,
-) -> Order
-    requires { (0 < n) × (look_of map.old (length mem.now) Load first ≡ At x room) × (look_of map.old (length mem.now) Load second ≡ At y more) }
+    one: Spot,
+    other: Spot,
+) -> Result<u32, Refusal>
+    requires { (0 < n) × (look_of map.old (length mem.now) Load first ≡ Ok one) × (look_of map.old (length mem.now) Load second ≡ Ok other) }
     ensures { (result ≡ order_of (look_both map.old (length mem.now) Load first second n) mem.now map.old first second n) × (map.new ≡ noted_by (look_both map.old (length mem.now) Load first second n) map.old first second n) }
 {
-    let s = span_of(map, mem.len(), Access::Load, first, n, x, room);
-    let t = span_of(map, mem.len(), Access::Load, second, n, y, more);
-    if s.len == 0 {
+    let Some(s) = span_of(map, mem.len(), Access::Load, first, n, one) else {
         return each::compare_field(mem, map, first, second, n);
-    }
-    if t.len == 0 {
+    };
+    let Some(t) = span_of(map, mem.len(), Access::Load, second, n, other) else {
         return each::compare_field(mem, map, first, second, n);
-    }
+    };
     note_span(map, first, n, s.len);
     note_span(map, second, n, t.len);
     let mut i: u32 = 0;
+    // No `for`: a piece is as long as both fields lie together.
     while i < n {
         let step = lookup::fewer_of(rest_of(s, n, i), rest_of(t, n, i) as usize);
         let code = blocks::compare_flat(mem, spot_of(s, i), spot_of(t, i), step);
         if code != 0 {
-            return Order::Code(code);
+            return Ok(code);
         }
-        i = i + step;
+        i += step;
     }
-    Order::Code(0)
+    Ok(0)
 }
 
 // A move of which one field, `a`, goes on into a second page: the stored one, or the one that is read. Its first k bytes were found, and the
@@ -164,18 +154,16 @@ pub fn move_edge(
     requires { (0 < k) × (k < n) × (length map.now ≡ 512) × (x + k ≤ length mem.old) × (y + k ≤ length mem.old) × (is_store access ≡ true → y + n ≤ length mem.old) × (is_store access ≡ false → x + n ≤ length mem.old) }
     ensures { (result ≡ true → Edged access map.now a x y k n mem.old mem.new) × (result ≡ false → mem.new ≡ mem.old) }
 {
-    let next = lookup::look_marked(map, mem.len(), access, lookup::past_of(a, k));
-    let Look::At(z, far) = next else {
+    let Some(next) = lookup::look_marked(map, mem.len(), access, lookup::past_of(a, k)) else {
         return false;
     };
-    if far < n - k {
+    if next.reach < n - k {
         return false;
     }
     blocks::move_flat(mem, x, y, k);
     match access {
-        Access::Store => blocks::move_flat(mem, z, y + k as usize, n - k),
-        Access::Load => blocks::move_flat(mem, x + k as usize, z, n - k),
-        Access::Fetch => blocks::move_flat(mem, x + k as usize, z, n - k),
+        Access::Store => blocks::move_flat(mem, next.at, y + k as usize, n - k),
+        Access::Load | Access::Fetch => blocks::move_flat(mem, x + k as usize, next.at, n - k),
     }
     true
 }

@@ -8,10 +8,10 @@ use native.Mathlib.Omega.{arith}
 use lib.Dec.{leb}
 use lib.ListN.{length, get_or, length-append}
 use borrow.Author.Tests.{leb-true}
+use Rattle.std.specs.Prelude.{Some, None}
 use Rattle.words.specs.Ascii.{ascii}
 use Rattle.code.specs.declared.Action.{Action}
 use Rattle.code.specs.declared.Action.TheVariants.{Rr, Rx, Rs, Si, Ss}
-use Rattle.code.specs.declared.Found.TheVariants.{Known, Unknown}
 use Rattle.code.specs.Table.{Row, table, named, action_of, name_of}
 use Rattle.code.specs.Formats.{length_of, left_of, right_of, base_of, displacement_of}
 use Rattle.printing.specs.Digits.{digit, digits_of, trimmed, hex_of, decimal_of}
@@ -85,7 +85,7 @@ all_fit : every_row fits table ≡ true
 unfolding table
 all_fit = refl
 
-name_long : (k : ℕ) (x : Action) → action_of k ≡ Known x → length (name_of k) + most x ≤ 24
+name_long : (k : ℕ) (x : Action) → action_of k ≡ Some x → length (name_of k) + most x ≤ 24
 unfolding name_of
 name_long k x e = leb-true (length (ascii (named table k)) + most x) 24 (of_row fits all_fit k x e)
 
@@ -93,11 +93,11 @@ pub line_long : (l : Line) → Proper l → length (text_of l) ≤ 33
 unfolding text_of
 line_long l p = by_kind l.bytes (λ f. length (hex_of 6 l.address ++ said_of f l.bytes ++ LF) ≤ 33) raw known
   where
-    raw : length (hex_of 6 l.address ++ said_of Unknown l.bytes ++ LF) ≤ 33
+    raw : length (hex_of 6 l.address ++ said_of None l.bytes ++ LF) ≤ 33
     raw = simp (length-append, digits_long, quoted_long) (omega (arith, p.few))
 
-    known : (x : Action) → action_of (get_or l.bytes 0 0) ≡ Known x → length l.bytes ≡ length_of x
-        → length (hex_of 6 l.address ++ said_of (Known x) l.bytes ++ LF) ≤ 33
+    known : (x : Action) → action_of (get_or l.bytes 0 0) ≡ Some x → length l.bytes ≡ length_of x
+        → length (hex_of 6 l.address ++ said_of (Some x) l.bytes ++ LF) ≤ 33
     known x e n =
         simp (length-append, digits_long)
         (omega (arith, name_long (get_or l.bytes 0 0) x e, operands_long l.bytes p.small x))

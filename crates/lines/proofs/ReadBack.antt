@@ -6,11 +6,10 @@ use Prim.Native.Nat.{ℕ, zero, suc, ◌+◌, ◌-◌, ◌*◌, ◌/◌, ◌%◌
 use native.Mathlib.Omega.{arith}
 use lib.ListN.{length, get_or, drop, drop_of_length-le}
 use lib.Seq.{drop-cons}
+use Rattle.std.specs.Prelude.{Option, Some, None}
 use Rattle.words.specs.Ascii.{ascii}
 use Rattle.code.specs.declared.Action.{Action}
 use Rattle.code.specs.declared.Action.TheVariants.{Rr, Rx, Rs, Si, Ss}
-use Rattle.code.specs.declared.Found.{Found}
-use Rattle.code.specs.declared.Found.TheVariants.{Known, Unknown}
 use Rattle.code.specs.Formats.{length_of, byte_of, left_of, right_of, base_of, displacement_of}
 use Rattle.printing.specs.Digits.{digit, digits_of, decimal_of}
 use Rattle.printing.specs.Lines.{LF}
@@ -79,15 +78,15 @@ address_bytes b d = (b * 16 + d / 256) ∷ (d % 256) ∷ []
 
 -- `n` and `raw` read the word at a place as a number and as bytes. Between two marks stands an empty word: `D1(B1),X'I2'` has the
 -- words D1, B1, none, X and I2.
-abbrev bytes_by : Found → ℕ → (ℕ → ℕ) → (ℕ → List ℕ) → List ℕ
-bytes_by (Known (Rr x)) k n raw = k ∷ (n 0 * 16 + n 1) ∷ []
-bytes_by (Known (Rx x)) k n raw = k ∷ (n 0 * 16 + n 2) ∷ address_bytes (n 3) (n 1)
-bytes_by (Known (Rs x)) k n raw = k ∷ (n 0 * 16 + n 1) ∷ address_bytes (n 3) (n 2)
-bytes_by (Known (Si x)) k n raw = k ∷ raw 4 ++ address_bytes (n 1) (n 0)
-bytes_by (Known (Ss x)) k n raw = k ∷ (n 1 - 1) ∷ address_bytes (n 2) (n 0) ++ address_bytes (n 5) (n 4)
-bytes_by Unknown k n raw = raw 1
+abbrev bytes_by : Option Action → ℕ → (ℕ → ℕ) → (ℕ → List ℕ) → List ℕ
+bytes_by (Some (Rr x)) k n raw = k ∷ (n 0 * 16 + n 1) ∷ []
+bytes_by (Some (Rx x)) k n raw = k ∷ (n 0 * 16 + n 2) ∷ address_bytes (n 3) (n 1)
+bytes_by (Some (Rs x)) k n raw = k ∷ (n 0 * 16 + n 1) ∷ address_bytes (n 3) (n 2)
+bytes_by (Some (Si x)) k n raw = k ∷ raw 4 ++ address_bytes (n 1) (n 0)
+bytes_by (Some (Ss x)) k n raw = k ∷ (n 1 - 1) ∷ address_bytes (n 2) (n 0) ++ address_bytes (n 5) (n 4)
+bytes_by None k n raw = raw 1
 
-pub bytes_told : Found → ℕ → List (List ℕ) → List ℕ
+pub bytes_told : Option Action → ℕ → List (List ℕ) → List ℕ
 bytes_told f k ws = bytes_by f k (λ i. value 10 (get_or ws i [])) (λ i. pairs (get_or ws i []))
 
 module _ (b c : ℕ) (h : c < 256) where
@@ -122,7 +121,7 @@ ruleset values = (register_value, displacement_value, length_value, one_less, ba
 ruleset told = (values, byte_told, fields_told, right_told, low_told, high_told)
 
 module _ (bs : List ℕ) (h : Bytes bs) where
-  pub operands_told : (x : Action) → length bs ≡ length_of x → bytes_told (Known x) (get_or bs 0 0) (cut high (operands_of x bs ++ LF)) ≡ bs
+  pub operands_told : (x : Action) → length bs ≡ length_of x → bytes_told (Some x) (get_or bs 0 0) (cut high (operands_of x bs ++ LF)) ≡ bs
   unfolding bytes_told operands_of rr_text rx_text rs_text si_text ss_text based indexed quoted
   operands_told (Rr x) n = simp words (simp (told, h) (laid 2 0 bs n))
   operands_told (Rx x) n = simp words (simp (told, h) (laid 4 0 bs n))
@@ -130,6 +129,6 @@ module _ (bs : List ℕ) (h : Bytes bs) where
   operands_told (Si x) n = simp words (simp (told, h) (laid 4 0 bs n))
   operands_told (Ss x) n = simp words (simp (told, h) (laid 6 0 bs n))
 
-pub raw_told : (bs : List ℕ) → Bytes bs → (k : ℕ) → bytes_told Unknown k (cut high (quoted bs ++ LF)) ≡ bs
+pub raw_told : (bs : List ℕ) → Bytes bs → (k : ℕ) → bytes_told None k (cut high (quoted bs ++ LF)) ≡ bs
 unfolding bytes_told quoted
 raw_told bs h k = simp words (hex_told_lem bs h)

@@ -8,11 +8,10 @@ use native.Mathlib.Omega.{arith}
 use lib.Dec.{leb, ltb}
 use lib.ListN.{length, get_or, take, drop, length-drop}
 use borrow.Author.Tests.{leb-true, ltb-true, ltb-false}
+use Rattle.std.specs.Prelude.{Option, Some, None}
 use Rattle.words.specs.Pick.{pick}
 use Rattle.code.specs.declared.Action.{Action}
 use Rattle.code.specs.declared.Action.TheVariants.{Rr, Rx, Rs, Si, Ss}
-use Rattle.code.specs.declared.Found.{Found}
-use Rattle.code.specs.declared.Found.TheVariants.{Known, Unknown}
 use Rattle.code.specs.Table.{action_of}
 use Rattle.code.specs.Formats.{length_of}
 use Rattle.lines.specs.Line.{Line, line}
@@ -36,9 +35,9 @@ length_some (Rs x) = omega arith
 length_some (Si x) = omega arith
 length_some (Ss x) = omega arith
 
-takes : (f : Found) (left : ℕ) → 0 < left → Takes left (size_in f left)
-takes Unknown left h = raw_takes left h
-takes (Known x) left h = go (leb (length_of x) left) refl
+takes : (f : Option Action) (left : ℕ) → 0 < left → Takes left (size_in f left)
+takes None left h = raw_takes left h
+takes (Some x) left h = go (leb (length_of x) left) refl
   where
     go : (t : Bool) → leb (length_of x) left ≡ t → Takes left (pick t (length_of x) (raw_size left))
     go true e = ((length_some x).0, leb-true (length_of x) left e, (length_some x).1)

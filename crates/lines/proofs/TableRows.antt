@@ -6,11 +6,11 @@ use Prim.Native.Nat.{ℕ}
 use native.Mathlib.Omega.{arith}
 use lib.Dec.{eqb}
 use borrow.Author.Tests.{eqb-true}
+use Rattle.std.specs.Prelude.{Some, None}
 use Rattle.words.specs.Pick.{pick, both}
 use Rattle.words.specs.Ascii.{ascii, same}
 use Rattle.words.proofs.Tests.{both_true}
 use Rattle.code.specs.declared.Action.{Action}
-use Rattle.code.specs.declared.Found.TheVariants.{Known, Unknown}
 use Rattle.code.specs.Table.{Row, row, table, find, named, action_of, name_of}
 use Rattle.lines.proofs.CutTexts.{all, high}
 
@@ -18,21 +18,21 @@ abbrev pub every_row : (Row → Bool) → List Row → Bool
 every_row q [] = true
 every_row q (r ∷ rs) = both (q r) (every_row q rs)
 
-found_row : (q : Row → Bool) (rs : List Row) (k : ℕ) (x : Action) → every_row q rs ≡ true → find rs k ≡ Known x
+found_row : (q : Row → Bool) (rs : List Row) (k : ℕ) (x : Action) → every_row q rs ≡ true → find rs k ≡ Some x
     → q (row k (named rs k) x) ≡ true
 found_row q [] k x h e = absurd (let z : ◌≡◌ {A = ℕ} 0 1 = cc in omega arith)
 found_row q (r ∷ rs) k x h e =
     let b = both_true (q r) (every_row q rs) h in
     go (eqb k r.code) refl e b.0 (found_row q rs k x b.1)
   where
-    go : (t : Bool) → eqb k r.code ≡ t → pick t (Known r.action) (find rs k) ≡ Known x → q r ≡ true
-        → (find rs k ≡ Known x → q (row k (named rs k) x) ≡ true) → q (row k (pick t r.name (named rs k)) x) ≡ true
+    go : (t : Bool) → eqb k r.code ≡ t → pick t (Some r.action) (find rs k) ≡ Some x → q r ≡ true
+        → (find rs k ≡ Some x → q (row k (named rs k) x) ≡ true) → q (row k (pick t r.name (named rs k)) x) ≡ true
     go true f g b later =
         let a : r.action ≡ x = cc in
         rw (eqb-true k r.code f, ← a) b
     go false f g b later = later g
 
-pub of_row : (q : Row → Bool) → every_row q table ≡ true → (k : ℕ) (x : Action) → action_of k ≡ Known x → q (row k (named table k) x) ≡ true
+pub of_row : (q : Row → Bool) → every_row q table ≡ true → (k : ℕ) (x : Action) → action_of k ≡ Some x → q (row k (named table k) x) ≡ true
 unfolding action_of
 of_row q h k x e = found_row q table k x h e
 
@@ -51,7 +51,7 @@ names_tell : every_row telling table ≡ true
 unfolding same table code_named
 names_tell = refl
 
-module _ (k : ℕ) (x : Action) (h : action_of k ≡ Known x) where
+module _ (k : ℕ) (x : Action) (h : action_of k ≡ Some x) where
   told : (code_named (name_of k) ≡ k) × (all high (name_of k) ≡ true)
   unfolding name_of
   told =
@@ -66,6 +66,6 @@ module _ (k : ℕ) (x : Action) (h : action_of k ≡ Known x) where
   high_name = told.1
 
 -- no operation is called DC
-pub raw_name : action_of (code_named (ascii "DC")) ≡ Unknown
+pub raw_name : action_of (code_named (ascii "DC")) ≡ None
 unfolding same action_of table code_named
 raw_name = refl

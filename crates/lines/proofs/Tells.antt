@@ -5,9 +5,9 @@ use mathlib.Core.List.{List, [], ◌∷◌, ◌++◌, append_assoc}
 use Prim.Native.Nat.{ℕ, ◌^◌, ◌<◌}
 use native.Mathlib.Nat.{mod-eq_of_lt}
 use lib.ListN.{length, get_or, drop}
+use Rattle.std.specs.Prelude.{Some, None}
 use Rattle.words.specs.Ascii.{ascii}
 use Rattle.code.specs.declared.Action.{Action}
-use Rattle.code.specs.declared.Found.TheVariants.{Known, Unknown}
 use Rattle.code.specs.Table.{action_of, name_of}
 use Rattle.code.specs.Formats.{length_of}
 use Rattle.printing.specs.Digits.{hex_of}
@@ -45,13 +45,13 @@ abbrev pub wrapped_line : Line → Line
 wrapped_line l = line (wrapped l.address) l.bytes
 
 module _ (l : Line) (b : Bytes l.bytes) where
-  raw_line : line_told (hex_of 6 l.address ++ said_of Unknown l.bytes ++ LF) ≡ wrapped_line l
+  raw_line : line_told (hex_of 6 l.address ++ said_of None l.bytes ++ LF) ≡ wrapped_line l
   raw_line =
       parts_told l.address (ascii "DC") (quoted l.bytes) refl
       ∙ rw (raw_name, raw_told l.bytes b (code_named (ascii "DC")))
 
-  known_line : (x : Action) → action_of (get_or l.bytes 0 0) ≡ Known x → length l.bytes ≡ length_of x
-      → line_told (hex_of 6 l.address ++ said_of (Known x) l.bytes ++ LF) ≡ wrapped_line l
+  known_line : (x : Action) → action_of (get_or l.bytes 0 0) ≡ Some x → length l.bytes ≡ length_of x
+      → line_told (hex_of 6 l.address ++ said_of (Some x) l.bytes ++ LF) ≡ wrapped_line l
   known_line x e n =
       let k = get_or l.bytes 0 0 in
       parts_told l.address (name_of k) (operands_of x l.bytes) (high_name k x e)

@@ -5,10 +5,10 @@ use mathlib.Core.List.{List, [], ◌∷◌, ◌++◌, append_assoc, map}
 use Prim.Native.Nat.{ℕ, ◌^◌, ◌<◌}
 use native.Mathlib.Nat.{mod-eq_of_lt}
 use lib.ListN.{length, get_or}
+use Rattle.std.specs.Prelude.{Some}
 use Rattle.words.specs.Ascii.{ascii}
 use Rattle.code.specs.declared.Action.{Action}
 use Rattle.code.specs.declared.Action.TheVariants.{Rr, Rx, Rs, Si, Ss}
-use Rattle.code.specs.declared.Found.TheVariants.{Known}
 use Rattle.code.specs.Table.{action_of, name_of}
 use Rattle.code.specs.Formats.{length_of}
 use Rattle.printing.specs.Digits.{hex_of, decimal_of}
@@ -54,8 +54,8 @@ line_in_line l =
     (high_in_line (hex_of 6 l.address) (high_digits 16 6 l.address))
     (by_kind l.bytes (λ f. all in_line (said_of f l.bytes) ≡ true) (quoted_in_line l.bytes) known)
   where
-    known : (x : Action) → action_of (get_or l.bytes 0 0) ≡ Known x → length l.bytes ≡ length_of x
-        → all in_line (said_of (Known x) l.bytes) ≡ true
+    known : (x : Action) → action_of (get_or l.bytes 0 0) ≡ Some x → length l.bytes ≡ length_of x
+        → all in_line (said_of (Some x) l.bytes) ≡ true
     known x e n =
         let k = get_or l.bytes 0 0 in
         all_append in_line (name_of k) (field (operands_of x l.bytes)) (high_in_line (name_of k) (high_name k x e))

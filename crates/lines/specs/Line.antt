@@ -1,12 +1,10 @@
 -- A line of a listing: address, operation name and operands, parted by tabs, and LF. How operands look goes by the format, a rule
 -- each; every field is there, so that a line tells its bytes.
-use Rattle.std.specs.Prelude.{List, [], ◌∷◌, ◌++◌, ℕ, ◌+◌, ◌*◌, eqb, length, get_or}
+use Rattle.std.specs.Prelude.{Option, Some, None, List, [], ◌∷◌, ◌++◌, ℕ, ◌+◌, ◌*◌, eqb, length, get_or}
 use Rattle.words.specs.Pick.{pick}
 use Rattle.words.specs.Ascii.{ascii}
 use Rattle.code.specs.declared.Action.{Action}
 use Rattle.code.specs.declared.Action.TheVariants.{Rr, Rx, Rs, Si, Ss}
-use Rattle.code.specs.declared.Found.{Found}
-use Rattle.code.specs.declared.Found.TheVariants.{Known, Unknown}
 use Rattle.code.specs.declared.RrFields.{RrFields}
 use Rattle.code.specs.declared.RxFields.{RxFields}
 use Rattle.code.specs.declared.RsFields.{RsFields}
@@ -75,17 +73,17 @@ operands_of (Si x) bs = si_text (si_of (half_at bs 0) (half_at bs 2))
 operands_of (Ss x) bs = ss_text (ss_of (half_at bs 0) (half_at bs 2) (half_at bs 4))
 
 -- a stretch is an instruction if it has as many bytes as the format of its first byte's operation asks
-abbrev pub of_length : Found → ℕ → Found
-of_length (Known x) n = pick (eqb n (length_of x)) (Known x) Unknown
-of_length Unknown n = Unknown
+abbrev pub of_length : Option Action → ℕ → Option Action
+of_length (Some x) n = pick (eqb n (length_of x)) (Some x) None
+of_length None n = None
 
-unfoldable pub instruction_in : List ℕ → Found
+unfoldable pub instruction_in : List ℕ → Option Action
 instruction_in bs = of_length (action_of (get_or bs 0 0)) (length bs)
 
 -- name and operands: of an instruction its own, of any other stretch DC and the raw bytes
-abbrev pub said_of : Found → List ℕ → List ℕ
-said_of (Known x) bs = field (name_of (get_or bs 0 0)) ++ field (operands_of x bs)
-said_of Unknown bs = field (ascii "DC") ++ field (quoted bs)
+abbrev pub said_of : Option Action → List ℕ → List ℕ
+said_of (Some x) bs = field (name_of (get_or bs 0 0)) ++ field (operands_of x bs)
+said_of None bs = field (ascii "DC") ++ field (quoted bs)
 
 unfoldable pub text_of : Line → List ℕ
 text_of l = hex_of 6 l.address ++ said_of (instruction_in l.bytes) l.bytes ++ LF

@@ -1,9 +1,7 @@
 -- A listing: the lines of some code from an address on, those that fit an output, and the answer.
-use Rattle.std.specs.Prelude.{List, [], ◌∷◌, ◌++◌, ℕ, zero, suc, ◌+◌, ◌-◌, ◌%◌, ◌^◌, leb, ltb, length, get_or, take, drop}
-use Rattle.std.specs.Prelude.{Result, Ok, Err}
+use Rattle.std.specs.Prelude.{Option, Some, None, List, [], ◌∷◌, ◌++◌, ℕ, zero, suc, ◌+◌, ◌-◌, ◌%◌, ◌^◌, leb, ltb, length, get_or, take, drop, Result, Ok, Err}
 use Rattle.words.specs.Pick.{pick}
-use Rattle.code.specs.declared.Found.{Found}
-use Rattle.code.specs.declared.Found.TheVariants.{Known, Unknown}
+use Rattle.code.specs.declared.Action.{Action}
 use Rattle.code.specs.Table.{action_of}
 use Rattle.code.specs.Formats.{length_of}
 use Rattle.lines.specs.declared.Listed.{Listed}
@@ -15,9 +13,9 @@ abbrev pub raw_size : ℕ → ℕ
 raw_size left = pick (ltb left 2) left 2
 
 -- how many of the bytes that are left the first line stands for: those of an instruction that is there whole, else raw bytes
-abbrev pub size_in : Found → ℕ → ℕ
-size_in (Known x) left = pick (leb (length_of x) left) (length_of x) (raw_size left)
-size_in Unknown left = raw_size left
+abbrev pub size_in : Option Action → ℕ → ℕ
+size_in (Some x) left = pick (leb (length_of x) left) (length_of x) (raw_size left)
+size_in None left = raw_size left
 
 unfoldable pub size_of : List ℕ → ℕ
 size_of code = size_in (action_of (get_or code 0 0)) (length code)

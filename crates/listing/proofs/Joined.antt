@@ -3,9 +3,8 @@ use mathlib.Core.Path.{◌≡◌, sym, ap, ap₂, ◌∙◌, subst}
 use mathlib.Core.List.{List, [], ◌∷◌, ◌++◌}
 use Prim.Native.Nat.{ℕ, ◌+◌}
 use lib.ListN.{get_or}
+use Rattle.std.specs.Prelude.{Option, Some, None}
 use Rattle.code.specs.declared.Action.{Action}
-use Rattle.code.specs.declared.Found.{Found}
-use Rattle.code.specs.declared.Found.TheVariants.{Known, Unknown}
 use Rattle.code.specs.declared.RrFields.{RrFields}
 use Rattle.code.specs.declared.RxFields.{RxFields}
 use Rattle.code.specs.declared.RsFields.{RsFields}
@@ -87,17 +86,17 @@ module _ (s a b : Writer) where
     line_joined address bs = three (hex_of 6 address) (said_of (instruction_in bs) bs) LF
 
     pub known_joined : (d : Writer) (x : Action) (bs : List ℕ) (op : ℕ) → op ≡ get_or bs 0 0 → Wrote s a (9 ∷ []) → Wrote a b (name_of op)
-        → Wrote b c (9 ∷ []) → Wrote c d (operands_of x bs) → Wrote s d (said_of (Known x) bs)
+        → Wrote b c (9 ∷ []) → Wrote c d (operands_of x bs) → Wrote s d (said_of (Some x) bs)
     known_joined d x bs op e h i j k =
         rw (← e)
         (after s b d (field (name_of op)) (field (operands_of x bs)) (after s a b (9 ∷ []) (name_of op) h i) (after b c d (9 ∷ []) (operands_of x bs) j k))
 
-  pub raw_joined : (bs : List ℕ) → Wrote s a (9 ∷ 68 ∷ 67 ∷ 9 ∷ []) → Wrote a b (quoted bs) → Wrote s b (said_of Unknown bs)
+  pub raw_joined : (bs : List ℕ) → Wrote s a (9 ∷ 68 ∷ 67 ∷ 9 ∷ []) → Wrote a b (quoted bs) → Wrote s b (said_of None bs)
   raw_joined bs h i = after s a b (9 ∷ 68 ∷ 67 ∷ 9 ∷ []) (quoted bs) h i
 
-pub said_joined : (s a : Writer) (f g : Found) (bs : List ℕ) → f ≡ instruction_in bs → f ≡ g → Wrote s a (said_of g bs)
+pub said_joined : (s a : Writer) (f g : Option Action) (bs : List ℕ) → f ≡ instruction_in bs → f ≡ g → Wrote s a (said_of g bs)
     → Wrote s a (said_of (instruction_in bs) bs)
-said_joined s a f g bs e k h = subst (λ (x : Found). Wrote s a (said_of x bs)) (sym k ∙ e) h
+said_joined s a f g bs e k h = subst (λ (x : Option Action). Wrote s a (said_of x bs)) (sym k ∙ e) h
 
 -- the operands of an action, by its format
 module _ (s b : Writer) (x : Action) (bs : List ℕ) (h1 : ℕ) (e1 : h1 ≡ half_at bs 0) where

@@ -1,12 +1,11 @@
 // The text of a line: address, name and operands.
 ghost use Rattle.std.specs.Prelude.{◌≡◌};
-ghost use Rattle.code.specs.declared.Found.TheVariants.{Known, Unknown};
 ghost use Rattle.code.specs.Table.{name_of};
 ghost use Rattle.printing.specs.Writing.{Wrote};
 ghost use Rattle.lines.specs.Line.{line, instruction_in, said_of, text_of};
 
 use super::operands;
-use code::{Action, Found};
+use code::Action;
 use printing::writing::Writer;
 
 // The name of an operation, up to the dots of its four places.
@@ -23,24 +22,23 @@ fn put_name(w: &mut Writer, op: u8)
 }
 
 // The instruction that a stretch is, if it is one.
-fn instruction_in(bytes: &[u8]) -> Found
+fn instruction_in(bytes: &[u8]) -> Option<Action>
     ensures { result ≡ instruction_in bytes.now }
 {
     if bytes.is_empty() {
-        return Found::Unknown;
+        return None;
     }
-    let Found::Known(action) = decode::action_of(bytes[0]) else {
-        return Found::Unknown;
-    };
+    let action = decode::action_of(bytes[0])?;
     if bytes.len() == decode::length_of(action) {
-        return Found::Known(action);
+        Some(action)
+    } else {
+        None
     }
-    Found::Unknown
 }
 
 // Name and operands of an instruction, each behind a tab.
 fn put_instruction(w: &mut Writer, action: Action, bytes: &[u8])
-    ensures { Wrote w.old w.new (said_of (Known action) bytes.now) }
+    ensures { Wrote w.old w.new (said_of (Some action) bytes.now) }
 {
     w.put(b'\t');
     put_name(w, operands::byte_at(bytes, 0));
@@ -50,7 +48,7 @@ fn put_instruction(w: &mut Writer, action: Action, bytes: &[u8])
 
 // The same of a stretch that is no instruction: DC and the raw bytes.
 fn put_raw(w: &mut Writer, bytes: &[u8])
-    ensures { Wrote w.old w.new (said_of Unknown bytes.now) }
+    ensures { Wrote w.old w.new (said_of None bytes.now) }
 {
     w.put_all(b"\tDC\t");
     operands::put_quoted(w, bytes);
@@ -60,8 +58,8 @@ fn put_said(w: &mut Writer, bytes: &[u8])
     ensures { Wrote w.old w.new (said_of (instruction_in bytes.now) bytes.now) }
 {
     match instruction_in(bytes) {
-        Found::Known(action) => put_instruction(w, action, bytes),
-        Found::Unknown => put_raw(w, bytes),
+        Some(action) => put_instruction(w, action, bytes),
+        None => put_raw(w, bytes),
     }
 }
 

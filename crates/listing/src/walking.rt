@@ -6,7 +6,6 @@ ghost use Rattle.lines.specs.Listing.{raw_size, size_of, wrapped};
 ghost use Rattle.listing.specs.Adding.{has_room, added};
 
 use super::{line, operands};
-use code::Found;
 use printing::writing::Writer;
 
 fn raw_size(left: usize) -> usize
@@ -20,7 +19,7 @@ pub fn size_of(code: &[u8]) -> usize
     ensures { result ≡ size_of code.now }
 {
     let left = code.len();
-    let Found::Known(action) = decode::action_of(operands::byte_at(code, 0)) else {
+    let Some(action) = decode::action_of(operands::byte_at(code, 0)) else {
         return raw_size(left);
     };
     let size = decode::length_of(action);

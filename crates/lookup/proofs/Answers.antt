@@ -10,10 +10,9 @@ use Rattle.words.specs.Pick.{pick, both, either}
 use Rattle.pages.specs.declared.Access.{Access}
 use Rattle.pages.specs.declared.Cause.{Cause}
 use Rattle.pages.specs.declared.Cause.TheVariants.{Addressing, PagingQueue, PagingError}
-use Rattle.pages.specs.declared.Look.TheVariants.{At, Refused}
 use Rattle.pages.specs.Word.{bit_u, bit_s, bit_e, bit_m, bits_x, frame, page_of, disp_of, base, size, real, word_of}
 use Rattle.pages.specs.Tests.{Verdict, fine, bad, is_store, tests, six_tests}
-use Rattle.pages.specs.Look.{fewer, reach, look_of}
+use Rattle.pages.specs.Look.{At, Refused, fewer, reach, look_of}
 use Rattle.pages.proofs.LookLaws.{disp_small, test_four}
 use Rattle.lookup.specs.Barred.{barred, cause_of}
 

@@ -8,14 +8,14 @@ use borrow.Author.Tests.{eqb-true, leb-true, le-ltb}
 use lib.Dec.{eqb, leb}
 use lib.ListN.{length, get_or, set}
 use lib.Seq.{get_or-set_same, set_out, set-set}
+use Rattle.std.specs.Prelude.{Option, Some, None}
 use Rattle.words.specs.Pick.{pick}
 use Rattle.words.proofs.Tests.{left_of_lem, right_of_lem}
 use Rattle.pages.specs.declared.Access.{Access}
-use Rattle.pages.specs.declared.Look.{Look}
-use Rattle.pages.specs.declared.Look.TheVariants.{At, Refused}
+use Rattle.pages.specs.declared.Spot.{Spot}
 use Rattle.pages.specs.Word.{bit_g, page_of, word_of, accessed, written}
 use Rattle.pages.specs.Tests.{is_store}
-use Rattle.pages.specs.Look.{fewer, look_of}
+use Rattle.pages.specs.Look.{At, fewer, look_of}
 use Rattle.pages.specs.Framed.{accessed_at, written_at}
 use Rattle.pages.proofs.Marks.{accessed_old, written_old}
 use Rattle.lookup.specs.Marked.{marked, with_marks, marks_of, Found, WholeLook, MarkedLook}
@@ -72,14 +72,12 @@ module _ (w : ℕ) (acc : Access) where
               λ s. stored_marked map a (let h = w_is s in omega (arith, h, ew)) (omega (arith, small, ew));
         }
 
-    pub marked_whole : (found : Look) → WholeLook found map n acc a → MarkedLook found map n acc a
-    unfolding WholeLook MarkedLook
-    marked_whole (At r k) h = marked_found r k (sym h.0)
-    marked_whole (Refused c b) h = h
+    pub marked_whole : (found : Option Spot) → WholeLook found map n acc a → MarkedLook found map n acc a
+    marked_whole (Some s) h = marked_found s.at s.reach (sym h.0)
+    marked_whole None h = h
 
     -- they are set already
     pub marks_there : map ≡ marks_of acc map a
-    unfolding marks_of
     marks_there = both_there (is_store acc) (w_is)
       where
         g : map ≡ accessed_at map a
@@ -92,7 +90,7 @@ module _ (w : ℕ) (acc : Access) where
 
 -- they are set
 pub marks_set : (acc : Access) (map : List ℕ) (a : ℕ) → page_of a < length map → set map (page_of a) (with_marks (word_of map (page_of a)) acc) ≡ marks_of acc map a
-unfolding with_marks marks_of accessed_at written_at word_of
+unfolding with_marks accessed_at written_at word_of
 marks_set acc map a h = by_store (is_store acc)
   where
     p : ℕ
@@ -108,7 +106,7 @@ marks_set acc map a h = by_store (is_store acc)
     by_store false = refl
 
 pub marks_out : (acc : Access) (map : List ℕ) (a : ℕ) → length map ≤ page_of a → map ≡ marks_of acc map a
-unfolding marks_of accessed_at written_at word_of
+unfolding accessed_at written_at word_of
 marks_out acc map a h = by_store (is_store acc)
   where
     p : ℕ

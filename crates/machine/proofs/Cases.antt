@@ -14,10 +14,9 @@ use Rattle.words.specs.Wide.{product_of, quotient_of, remainder_of, pair_of}
 use Rattle.words.specs.SignedShifts.{sign_bit, leftward, rightward, shifted_of}
 use Rattle.pages.specs.declared.Access.{Access}
 use Rattle.pages.specs.declared.Access.TheVariants.{Fetch, Load, Store}
-use Rattle.pages.specs.declared.Look.{Look}
 use Rattle.pages.specs.Word.{bit_u, bit_s, bit_e, bit_m, bit_h, bits_x, frame, page_of, disp_of, next, base, size, real, word_of, accessed, written}
 use Rattle.pages.specs.Tests as tests
-use Rattle.pages.specs.Look.{look_says, reach, look_of}
+use Rattle.pages.specs.Look.{Look, look_says, reach, look_of}
 use Rattle.pages.specs.Framed.{accessed_at, written_at, read_byte, write_byte}
 use Rattle.code.specs.Table as code
 use Rattle.machine.specs.Prog.{interp}

@@ -4,13 +4,12 @@ use Prim.Native.Nat.{ℕ}
 use mathlib.Core.Path.{◌≡◌, refl, sym, ◌∙◌, ap}
 use mathlib.Core.List.{List}
 use lib.ListN.{length, set}
+use Rattle.std.specs.Prelude.{Ok, Err}
 use Rattle.pages.specs.declared.Access.{Access}
 use Rattle.pages.specs.declared.Access.TheVariants.{Fetch, Load, Store}
-use Rattle.pages.specs.declared.Look.{Look}
-use Rattle.pages.specs.declared.Look.TheVariants.{At, Refused}
 use Rattle.pages.specs.Word.{accessed, written, page_of}
 use Rattle.pages.specs.Tests.{Verdict, fine, bad}
-use Rattle.pages.specs.Look.{verdict_of}
+use Rattle.pages.specs.Look.{Look, verdict_of}
 use Rattle.pages.specs.Framed.{Framed, framed_of, accessed_at, written_at, look_in, noted, read_at, read_byte, write_at, write_byte}
 use Rattle.pages.proofs.Marks.{accessed_quiet, look_quiet, changed_comm, accessed_written}
 use Rattle.machine.specs.Prog.{Prog, done, fail, look, get, put, Answer, finished, refused, keeps, after, interp}
@@ -40,8 +39,8 @@ unfolding write_byte
 wrote_noted s a b v = ap (write_at (noted s a) b v) (blind s a Store b) ∙ at_look (look_in s Store b)
   where
     at_look : (l : Look) → write_at (noted s a) b v l ≡ noted (write_at s b v l) a
-    at_look (At r k) = ap (framed_of (set s.mem r v)) (written_noted s.map a b)
-    at_look (Refused c p) = refl
+    at_look (Ok t) = ap (framed_of (set s.mem t.at v)) (written_noted s.map a b)
+    at_look (Err e) = refl
 
 -- the store that a program leaves, changed
 abbrev pub on_store : {R S : Type 0} → (S → S) → Answer R S → Answer R S

@@ -23,7 +23,7 @@ abbrev pub with_pc : Cpu → ℕ → Cpu
 with_pc c a = record { regs = c.regs; pc = a; code = c.code; mask = c.mask }
 
 -- a result: its word to register i, its code to the code
-abbrev pub with_res : Cpu → ℕ → Res → Cpu
+abbrev pub with_res : Cpu → ℕ → Res ℕ → Cpu
 with_res c i r = with_code (with_reg c i r.value) r.code
 
 -- the address n bytes past the counter, and the state with the counter there: addresses keep 24 bits

@@ -1,9 +1,7 @@
 -- Pairs of registers, each named by its even one (001, L3272).
-use Rattle.std.specs.Prelude.{ℕ, ◌+◌, ◌/◌, ◌%◌, eqb}
+use Rattle.std.specs.Prelude.{Ok, Err, ℕ, ◌+◌, ◌/◌, ◌%◌, eqb}
 use Rattle.words.specs.Pick.{pick}
-use Rattle.words.specs.declared.Paired.{Paired}
-use Rattle.words.specs.declared.Paired.TheVariants.{Value, DivideError}
-use Rattle.words.specs.Wide.{joined, paired_says}
+use Rattle.words.specs.Wide.{Paired, no_quotient, joined, paired_says}
 use Rattle.machine.specs.Prog.{Prog, done, fail}
 use Rattle.machine.specs.Cpu.{Cpu, reg, with_reg, onward}
 
@@ -20,5 +18,5 @@ even_only r c k = pick (eqb (r % 2) 0) k (fail 2 c.pc)
 
 -- the double word goes to the pair r, and the counter `len` bytes on; a divide error has its number at the program counter (document 02)
 unfoldable pub into_pair : Paired → ℕ → ℕ → Cpu → Prog Cpu
-into_pair (Value v) len r c = done (with_pair (onward c len) r v)
-into_pair DivideError len r c = fail (paired_says DivideError).number c.pc
+into_pair (Ok v) len r c = done (with_pair (onward c len) r v)
+into_pair (Err x) len r c = fail (paired_says no_quotient).number c.pc

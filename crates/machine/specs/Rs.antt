@@ -4,7 +4,7 @@ use Rattle.std.specs.Int.Signed.{lt_z}
 use Rattle.words.specs.Whole.{word_top, double_top, signed}
 use Rattle.words.specs.Combine.{shifted_left, shifted_right}
 use Rattle.words.specs.declared.Direction.{Direction}
-use Rattle.words.specs.declared.Shifted.{Shifted}
+use Rattle.words.specs.declared.Res.{Res}
 use Rattle.words.specs.SignedShifts.{shifted_of}
 use Rattle.pages.specs.declared.Access.TheVariants.{Load, Store}
 use Rattle.code.specs.declared.RsFields.{RsFields}
@@ -51,10 +51,10 @@ unfoldable pub is_high : RsFields → Cpu → Bool
 is_high f c = lt_z (signed word_top (comparand f c)) (signed word_top (index_sum f c))
 
 -- what a signed shift makes of R1's word, and of its pair's double word
-unfoldable pub shifted_word : Direction → RsFields → Cpu → Shifted
+unfoldable pub shifted_word : Direction → RsFields → Cpu → Res ℕ
 shifted_word d f c = shifted_of d word_top (reg c f.r1) (rs_address f c)
 
-unfoldable pub shifted_pair : Direction → RsFields → Cpu → Shifted
+unfoldable pub shifted_pair : Direction → RsFields → Cpu → Res ℕ
 shifted_pair d f c = shifted_of d double_top (pair c f.r1) (rs_address f c)
 
 unfoldable pub rs : RsAction → RsFields → Cpu → Prog Cpu

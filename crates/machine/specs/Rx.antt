@@ -24,7 +24,7 @@ width_of (HalfWith op) = Half
 width_of ByteInserted = Byte
 
 -- what a load makes of register a and operand v, with the code as it was
-unfoldable pub taken : Operand → ℕ → ℕ → ℕ → Res
+unfoldable pub taken : Operand → ℕ → ℕ → ℕ → Res ℕ
 -- L A S C AL SL CL N O X
 taken (WordWith op) a v cc = combine_of op a v cc
 -- LH AH SH CH MH: the sign is spread

@@ -1,12 +1,10 @@
 -- A step: one instruction, in document 01's order: odd program counter, the first halfword's look-up, operation, the remaining halfwords,
 -- lowest first, and then what the action asks: an even register for a pair, operand boundary, operand look-ups, a quotient that fits, the
 -- work.
-use Rattle.std.specs.Prelude.{ℕ, ◌%◌, eqb}
+use Rattle.std.specs.Prelude.{Option, Some, None, ℕ, ◌%◌, eqb}
 use Rattle.words.specs.Pick.{pick}
 use Rattle.code.specs.declared.Action.{Action}
 use Rattle.code.specs.declared.Action.TheVariants.{Rr, Rx, Rs, Si, Ss}
-use Rattle.code.specs.declared.Found.{Found}
-use Rattle.code.specs.declared.Found.TheVariants.{Known, Unknown}
 use Rattle.code.specs.Table.{action_of}
 use Rattle.code.specs.Formats.{op_of, rr_of, rx_of, rs_of, si_of, ss_of}
 use Rattle.machine.specs.Prog.{Prog, fail}
@@ -27,9 +25,9 @@ act (Si x) h1 c = halfword (ahead c 2) (λ h2. si x (si_of h1 h2) c)
 act (Ss x) h1 c = halfword (ahead c 2) (λ h2. halfword (ahead c 4) (λ h3. ss x (ss_of h1 h2 h3) c))
 
 -- an operation that is not in the set: 5 at the program counter
-abbrev pub known : Found → ℕ → Cpu → Prog Cpu
-known (Known x) h1 c = act x h1 c
-known Unknown h1 c = fail 5 c.pc
+abbrev pub known : Option Action → ℕ → Cpu → Prog Cpu
+known (Some x) h1 c = act x h1 c
+known None h1 c = fail 5 c.pc
 
 unfoldable pub step : Cpu → Prog Cpu
 step c =

@@ -1,4 +1,5 @@
-// The machine's answer to a step or a run, in numbers: document 01's number, place and count, and the state's scalars afterwards.
+// The machine's answer to a step or a run, in numbers: document 01's number, place and count, and the state's scalars afterwards. It is what
+// the exported functions hand out, so that a refusal is a number here.
 // All else of this crate is definitions (specs) and their laws (proofs).
 #![tactic(auto)]
 

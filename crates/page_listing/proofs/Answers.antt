@@ -6,11 +6,10 @@ use native.Mathlib.Omega.{arith}
 use lib.ListN.{length, take, drop}
 use borrow.Author.Tests.{lt-ltb, le-ltb}
 use Rattle.pages.specs.declared.Access.TheVariants.{Load}
-use Rattle.pages.specs.declared.Cause.{Cause}
-use Rattle.pages.specs.declared.Look.{Look}
-use Rattle.pages.specs.declared.Look.TheVariants.{At, Refused}
+use Rattle.pages.specs.declared.Spot.{Spot}
+use Rattle.pages.specs.declared.Refusal.{Refusal}
 use Rattle.std.specs.Prelude.{Ok, Err}
-use Rattle.pages.specs.Look.{look_of}
+use Rattle.pages.specs.Look.{Look, look_of}
 use Rattle.lines.specs.declared.Listed.{Listed}
 use Rattle.lines.specs.Listing.{answered, listed_from, listed}
 use Rattle.listing.proofs.Turns.{in_range}
@@ -32,12 +31,12 @@ module _ (mem map out : List ℕ) (page : ℕ) where
   no_page h = rw (le-ltb page 512 h)
 
   module _ (h : page < 512) (look : Look) (e : look ≡ look_of map (length mem) Load (first_of page)) where
-    pub first_found : (i k : ℕ) (answer : PageAnswer) → look ≡ At i k → answer ≡ of_page (listed (take k (drop i mem)) (first_of page) out)
+    pub first_found : (s : Spot) (answer : PageAnswer) → look ≡ Ok s → answer ≡ of_page (listed (take s.reach (drop s.at mem)) (first_of page) out)
         → answer ≡ page_listed mem map page out
     unfolding page_listed
-    first_found i k answer f a =
-        rw (lt-ltb page 512 h, ← e, f) (a ∙ ap (λ (bs : List ℕ). of_page (listed bs (first_of page) out)) (sym (page_reached mem map page h i k (sym e ∙ f))))
+    first_found s answer f a =
+        rw (lt-ltb page 512 h, ← e, f) (a ∙ ap (λ (bs : List ℕ). of_page (listed bs (first_of page) out)) (sym (page_reached mem map page h s.at s.reach (sym e ∙ f))))
 
-    pub first_refused : (c : Cause) (p : ℕ) → look ≡ Refused c p → page_answered (Err (Byte c p)) out ≡ page_listed mem map page out
+    pub first_refused : (f : Refusal) → look ≡ Err f → page_answered (Err (Byte f)) out ≡ page_listed mem map page out
     unfolding page_listed
-    first_refused c p f = rw (lt-ltb page 512 h, ← e, f)
+    first_refused g f = rw (lt-ltb page 512 h, ← e, f)

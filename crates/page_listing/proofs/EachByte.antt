@@ -6,12 +6,11 @@ use native.Mathlib.Omega.{arith}
 use native.Mathlib.Nat.{add-zero}
 use lib.ListN.{length, get_or}
 use borrow.Author.Tests.{lt-ltb}
+use Rattle.std.specs.Prelude.{Ok, Err}
 use Rattle.pages.specs.declared.Access.TheVariants.{Load}
 use Rattle.pages.specs.declared.Cause.{Cause}
-use Rattle.pages.specs.declared.Look.{Look}
-use Rattle.pages.specs.declared.Look.TheVariants.{At, Refused}
 use Rattle.pages.specs.Tests.{fine, number_of}
-use Rattle.pages.specs.Look.{look_of, verdict_of}
+use Rattle.pages.specs.Look.{Look, Refused, look_of, verdict_of}
 use Rattle.pages.specs.Framed.{framed_of, read_at, read_byte}
 use Rattle.pages.proofs.LookLaws.{refused_place}
 use Rattle.page_listing.specs.Page.{found_in, bytes_from, first_of, page_bytes, refused_at, page_listed}
@@ -27,9 +26,9 @@ module _ (mem map : List ℕ) where
   -- the first of them, by its look-up, and those behind it
   one_finds : (a : ℕ) (rest : List ℕ) → ((d : ℕ) → d < length rest → Finds (a + 1 + d) (get_or rest d 0))
       → (l : Look) → look a ≡ l → (d : ℕ) → d < length (found_in mem l rest) → Finds (a + d) (get_or (found_in mem l rest) d 0)
-  one_finds a rest f (Refused c p) e d h = absurd (omega arith)
-  one_finds a rest f (At r k) e zero h = rw (add-zero a, e) (refl, refl)
-  one_finds a rest f (At r j) e (suc d) h =
+  one_finds a rest f (Err refusal) e d h = absurd (omega arith)
+  one_finds a rest f (Ok s) e zero h = rw (add-zero a, e) (refl, refl)
+  one_finds a rest f (Ok s) e (suc d) h =
       let k : a + suc d ≡ a + 1 + d = omega arith in
       rw k (f d (omega arith))
 

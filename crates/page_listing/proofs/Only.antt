@@ -24,11 +24,14 @@ causes PagingError Addressing e = absurd (omega arith)
 causes PagingError PagingQueue e = absurd (omega arith)
 causes PagingError PagingError e = refl
 
+caused : (c : Cause) → 0 < number_of c
+caused Addressing = omega arith
+caused PagingQueue = omega arith
+caused PagingError = omega arith
+
 some : (e : PageRefusal) → 0 < number_in e
 some NoSuchPage = omega arith
-some (Byte Addressing a) = omega arith
-some (Byte PagingQueue a) = omega arith
-some (Byte PagingError a) = omega arith
+some (Byte f) = caused f.cause
 
 few : (c : Cause) → number_of c < 6
 few Addressing = omega arith
@@ -37,9 +40,9 @@ few PagingError = omega arith
 
 refusals : (e e' : PageRefusal) → number_in e ≡ number_in e' → place_in e ≡ place_in e' → e ≡ e'
 refusals NoSuchPage NoSuchPage n p = refl
-refusals NoSuchPage (Byte c a) n p = absurd (omega (arith, few c))
-refusals (Byte c a) NoSuchPage n p = absurd (omega (arith, few c))
-refusals (Byte c a) (Byte d b) n p = ap₂ Byte (causes c d n) p
+refusals NoSuchPage (Byte f) n p = absurd (omega (arith, few f.cause))
+refusals (Byte f) NoSuchPage n p = absurd (omega (arith, few f.cause))
+refusals (Byte f) (Byte g) n p = ap₂ (λ (c : Cause) (a : ℕ). Byte (record { cause = c; place = a })) (causes f.cause g.cause n) p
 
 replies : (r r' : Result Listed PageRefusal) (out out' : List ℕ) → page_answered r out ≡ page_answered r' out' → (r ≡ r') × (out ≡ out')
 replies (Ok r) (Ok r') out out' s =

@@ -11,14 +11,13 @@ use lib.Dec.{eqb}
 use lib.ListN.{length, get_or, take, drop}
 use lib.Seq.{drop-cons}
 use borrow.Author.Tests.{le-ltb}
+use Rattle.std.specs.Prelude.{Ok, Err}
 use Rattle.words.specs.Pick.{pick, both}
 use Rattle.pages.specs.declared.Access.TheVariants.{Load}
 use Rattle.pages.specs.declared.Cause.{Cause}
-use Rattle.pages.specs.declared.Look.{Look}
-use Rattle.pages.specs.declared.Look.TheVariants.{At, Refused}
 use Rattle.pages.specs.Word.{bit_e, bit_m, page_of, disp_of, base, size, real, word_of, Open}
 use Rattle.pages.specs.Tests.{fine, is_store}
-use Rattle.pages.specs.Look.{fewer, reach, look_of, verdict_of}
+use Rattle.pages.specs.Look.{Look, At, Refused, fewer, reach, look_of, verdict_of}
 use Rattle.pages.proofs.LookLaws.{found_in_lem}
 use Rattle.pages.proofs.ReachLaws.{reach_behind, reach_inside, reach_fits, reach_largest}
 use Rattle.page_listing.specs.Page.{bytes_from, page_bytes}
@@ -81,8 +80,8 @@ module _ (mem map : List ℕ) (page : ℕ) (h : page < 512) (r k : ℕ) (e : loo
   none (suc j) s = go (look_of map (length mem) Load (page * 4096 + k)) refl
     where
       go : (l : Look) → look_of map (length mem) Load (page * 4096 + k) ≡ l → bytes_from mem map (suc j) (page * 4096 + k) ≡ []
-      go (At q i) g = absurd (not_found (omega arith) q i g)
-      go (Refused c p) g = from_refused mem map (suc j) (page * 4096 + k) c p g
+      go (Ok t) g = absurd (not_found (omega arith) t.at t.reach g)
+      go (Err e) g = from_refused mem map (suc j) (page * 4096 + k) e.cause e.place g
 
   pub page_reached : page_bytes mem map page ≡ take k (drop r mem)
   unfolding page_bytes

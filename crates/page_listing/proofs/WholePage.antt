@@ -5,10 +5,9 @@ use Prim.Native.Nat.{ℕ, zero, suc, ◌+◌, ◌-◌, ◌*◌, ◌^◌, ◌≤�
 use native.Mathlib.Omega.{arith}
 use lib.ListN.{length, length-append}
 use borrow.Author.Tests.{lt-ltb, le-leb}
+use Rattle.std.specs.Prelude.{Ok, Err}
 use Rattle.pages.specs.declared.Access.TheVariants.{Load}
-use Rattle.pages.specs.declared.Look.{Look}
-use Rattle.pages.specs.declared.Look.TheVariants.{At, Refused}
-use Rattle.pages.specs.Look.{look_of}
+use Rattle.pages.specs.Look.{Look, At, look_of}
 use Rattle.lines.specs.Line.{Line, text_of}
 use Rattle.lines.specs.Listing.{size_of, wrapped, listing, texts, fitting, put_out, listed_from, listed}
 use Rattle.lines.proofs.Steps.{rest, rest_shorter, listing_none, listing_some}
@@ -46,9 +45,9 @@ few_characters = by_lines (λ a code. Bytes code → length (texts (listing a co
 -- a page's bytes are bytes, 4,096 at most
 module _ (mem map : List ℕ) (small : Bytes mem) where
   one_small : (l : Look) (behind : List ℕ) → Bytes behind → Bytes (found_in mem l behind)
-  one_small (At r k) behind h zero = small r
-  one_small (At r k) behind h (suc i) = h i
-  one_small (Refused c a) behind h i = omega arith
+  one_small (Ok s) behind h zero = small s.at
+  one_small (Ok s) behind h (suc i) = h i
+  one_small (Err e) behind h i = omega arith
 
   from_small : (n a : ℕ) → Bytes (bytes_from mem map n a)
   unfolding bytes_from
@@ -56,8 +55,8 @@ module _ (mem map : List ℕ) (small : Bytes mem) where
   from_small (suc n) a i = one_small (look_of map (length mem) Load a) (bytes_from mem map n (a + 1)) (from_small n (a + 1)) i
 
   one_few : (l : Look) (behind : List ℕ) (n : ℕ) → length behind ≤ n → length (found_in mem l behind) ≤ suc n
-  one_few (At r k) behind n h = omega arith
-  one_few (Refused c a) behind n h = omega arith
+  one_few (Ok s) behind n h = omega arith
+  one_few (Err e) behind n h = omega arith
 
   from_few : (n a : ℕ) → length (bytes_from mem map n a) ≤ n
   unfolding bytes_from

@@ -2,10 +2,8 @@
 use Rattle.std.specs.Prelude.{List, [], ◌∷◌, ℕ, zero, suc, ◌+◌, ◌*◌, ltb, length, get_or, Result, Ok, Err}
 use Rattle.words.specs.Pick.{pick}
 use Rattle.pages.specs.declared.Access.TheVariants.{Load}
-use Rattle.pages.specs.declared.Look.{Look}
-use Rattle.pages.specs.declared.Look.TheVariants.{At, Refused}
 use Rattle.pages.specs.Tests.{number_of}
-use Rattle.pages.specs.Look.{look_of}
+use Rattle.pages.specs.Look.{Look, look_of}
 use Rattle.lines.specs.Listing.{Answer, listed}
 use Rattle.lines.specs.declared.Listed.{Listed}
 use Rattle.page_listing.specs.declared.PageRefusal.{PageRefusal}
@@ -13,8 +11,8 @@ use Rattle.page_listing.specs.declared.PageRefusal.TheVariants.{NoSuchPage, Byte
 
 -- a byte that the look-up found, and the bytes behind it; nothing where it was refused
 abbrev pub found_in : List ℕ → Look → List ℕ → List ℕ
-found_in mem (At r k) behind = get_or mem r 0 ∷ behind
-found_in mem (Refused c a) behind = []
+found_in mem (Ok s) behind = get_or mem s.at 0 ∷ behind
+found_in mem (Err e) behind = []
 
 -- the bytes that the look-up finds from an address on, n at most, up to the first that it refuses
 unfoldable pub bytes_from : List ℕ → List ℕ → ℕ → ℕ → List ℕ
@@ -40,11 +38,11 @@ pub record PageAnswer : Type 0 where
 -- a refusal's number, and its place
 abbrev pub number_in : PageRefusal → ℕ
 number_in NoSuchPage = 6
-number_in (Byte c a) = number_of c
+number_in (Byte e) = number_of e.cause
 
 abbrev pub place_in : PageRefusal → ℕ
 place_in NoSuchPage = 0
-place_in (Byte c a) = a
+place_in (Byte e) = e.place
 
 abbrev pub page_answered : Result Listed PageRefusal → List ℕ → PageAnswer
 page_answered (Ok r) out =
@@ -64,8 +62,8 @@ refused_at number place out =
 
 -- by the look-up of the page's first byte
 abbrev pub listed_as : Look → Answer → List ℕ → PageAnswer
-listed_as (At r k) answer out = of_page answer
-listed_as (Refused c a) answer out = refused_at (number_of c) a out
+listed_as (Ok s) answer out = of_page answer
+listed_as (Err e) answer out = refused_at (number_of e.cause) e.place out
 
 -- the machine has pages 0 to 511; any other number gives 6
 unfoldable pub page_listed : List ℕ → List ℕ → ℕ → List ℕ → PageAnswer

@@ -1,22 +1,31 @@
 // The listing of a page of a machine: its bytes as the look-up finds them, listed at the page's own address.
 #![tactic(auto)]
 
-ghost use Rattle.std.specs.Prelude.{◌≡◌, ◌≤◌, ◌<◌, ◌+◌, length, take, drop};
+ghost use Rattle.std.specs.Prelude.{◌≡◌, ◌≤◌, ◌<◌, ◌+◌, length, take, drop, Ok};
 ghost use Rattle.pages.specs.Tests.{number_of};
 ghost use Rattle.lines.specs.Listing.{listed};
+ghost use Rattle.page_listing.specs.declared.PageRefusal.TheVariants.{Byte};
 ghost use Rattle.page_listing.specs.Page.{first_of, number_in, place_in, page_answered, of_page, page_listed};
 
 use lines::Listed;
-use pages::{Access, Cause, Look};
+use pages::{Access, Cause, Refusal, Spot};
 
 // Why nothing of a page was listed.
 #[derive(Clone, Copy)]
 pub enum PageRefusal {
     NoSuchPage, // the machine lacks it
-    Byte(Cause, u32), // its first byte was refused: the cause, and the byte's address
+    Byte(Refusal), // its first byte was refused
 }
 
-// The number of a cause. The crate actions has the same function; neither crate stands on the other.
+impl From<Refusal> for PageRefusal {
+    ghost from_gives = { λ r e. e ≡ Byte r };
+
+    fn from(refused: Refusal) -> PageRefusal {
+        PageRefusal::Byte(refused)
+    }
+}
+
+// The number of a cause.
 fn number_of(cause: Cause) -> u32
     ensures { result ≡ number_of cause }
 {
@@ -34,7 +43,7 @@ impl PageRefusal {
     {
         match self {
             PageRefusal::NoSuchPage => 6,
-            PageRefusal::Byte(cause, _) => number_of(cause),
+            PageRefusal::Byte(refused) => number_of(refused.cause),
         }
     }
 
@@ -44,17 +53,21 @@ impl PageRefusal {
     {
         match self {
             PageRefusal::NoSuchPage => 0,
-            PageRefusal::Byte(_, place) => place,
+            PageRefusal::Byte(refused) => refused.place,
         }
     }
 }
 
 // The listing of a page that the look-up of its first byte reaches: its bytes lie together, and are listed where they lie.
-fn list_found(mem: &[u8], page: u32, at: usize, reach: u32, out: &mut [u8]) -> Listed
-    requires { (page < 512) × (at + reach ≤ length mem.now) }
-    ensures { page_answered (Ok result) out.new ≡ of_page (listed (take reach (drop at mem.now)) (first_of page) out.old) }
+fn list_found(mem: &[u8], page: u32, first: Spot, out: &mut [u8]) -> Listed
+    requires { (page < 512) × (first.at + first.reach ≤ length mem.now) }
+    ensures { page_answered (Ok result) out.new ≡ of_page (listed (take first.reach (drop first.at mem.now)) (first_of page) out.old) }
 {
-    listing::list_all(&mem[at..at + reach as usize], page * 4096, out)
+    listing::list_all(
+        &mem[first.at..first.at + first.reach as usize],
+        page * 4096,
+        out,
+    )
 }
 
 // The entry: as many lines of a page as fit the output. The page is found by its whole number.
@@ -64,8 +77,6 @@ pub fn list_page(mem: &[u8], map: &[u16], page: u32, out: &mut [u8]) -> Result<L
     if page >= 512 {
         return Err(PageRefusal::NoSuchPage);
     }
-    match lookup::look_up(map, mem.len(), Access::Load, page * 4096) {
-        Look::At(at, reach) => Ok(list_found(mem, page, at, reach, out)),
-        Look::Refused(cause, place) => Err(PageRefusal::Byte(cause, place)),
-    }
+    let first = lookup::look_up(map, mem.len(), Access::Load, page * 4096)?;
+    Ok(list_found(mem, page, first, out))
 }

@@ -6,16 +6,51 @@ use mathlib.Core.Bool.{Bool, true, false}
 use mathlib.Core.List.{List}
 use borrow.Author.Tests.{ltb-true, ltb-false, leb-false, eqb-true, eqb-false, lt-ltb, le-ltb, lt-leb, ne_eqb}
 use lib.Dec.{eqb, leb, ltb}
+use Rattle.std.specs.Prelude.{Result, Ok, Err, IsErrAnd}
+use Rattle.std.proofs.lemmas.Result.{err_from_is_err_and}
 use Rattle.words.specs.Pick.{pick, both}
 use Rattle.pages.specs.declared.Access.{Access}
 use Rattle.pages.specs.declared.Access.TheVariants.{Load}
 use Rattle.pages.specs.declared.Cause.{Cause}
 use Rattle.pages.specs.declared.Cause.TheVariants.{Addressing}
-use Rattle.pages.specs.declared.Look.{Look}
-use Rattle.pages.specs.declared.Look.TheVariants.{At, Refused}
+use Rattle.pages.specs.declared.Spot.{Spot}
+use Rattle.pages.specs.declared.Refusal.{Refusal}
 use Rattle.pages.specs.Word.{bit_u, bit_s, bit_e, bit_m, bit_h, bits_x, frame, page_of, disp_of, base, size, real, word_of}
 use Rattle.pages.specs.Tests.{Verdict, fine, bad, is_store, tests, six_tests}
-use Rattle.pages.specs.Look.{reach, look_of, look_with, test_seven}
+use Rattle.pages.specs.Look.{Look, At, Refused, reach, look_of, look_with, test_seven}
+
+-- two answers that are the same have the same parts
+spot_in : Look → Spot
+spot_in (Ok s) = s
+spot_in (Err e) = record { at = 0; reach = 0 }
+
+refusal_in : Look → Refusal
+refusal_in (Ok s) = record { cause = Addressing; place = 0 }
+refusal_in (Err e) = e
+
+pub same_spot : {s t : Spot} → ◌≡◌ {A = Look} (Ok s) (Ok t) → s ≡ t
+unfolding spot_in
+same_spot h = ap spot_in h
+
+pub same_refusal : {e f : Refusal} → ◌≡◌ {A = Look} (Err e) (Err f) → e ≡ f
+unfolding refusal_in
+same_refusal h = ap refusal_in h
+
+pub same_real : {r k q j : ℕ} → At r k ≡ At q j → r ≡ q
+same_real h = ap (λ (s : Spot). s.at) (same_spot h)
+
+pub same_reach : {r k q j : ℕ} → At r k ≡ At q j → k ≡ j
+same_reach h = ap (λ (s : Spot). s.reach) (same_spot h)
+
+pub same_cause : {c d : Cause} {a b : ℕ} → Refused c a ≡ Refused d b → c ≡ d
+same_cause h = ap (λ (e : Refusal). e.cause) (same_refusal h)
+
+pub same_place : {c d : Cause} {a b : ℕ} → Refused c a ≡ Refused d b → a ≡ b
+same_place h = ap (λ (e : Refusal). e.place) (same_refusal h)
+
+-- what a `?` hands on is the refusal that it met
+pub handed_on : {T : Type 0} (r : Result T Refusal) (e : Refusal) → IsErrAnd r (λ f. f ≡ e) → r ≡ Err e
+handed_on r e h = let p = err_from_is_err_and r h in p.1 ∙ ap Err p.2
 
 -- a displacement is below 4,096; test 4 asks whether the page has it
 pub disp_small : (a : ℕ) → disp_of a < 4096
@@ -81,9 +116,9 @@ seven fine x j n a r k e = go (ltb x n) refl e
     go : (b : Bool) → ltb x n ≡ b → pick b (At x j) (Refused Addressing a) ≡ At r k → (fine ≡ fine) × (x ≡ r) × (r < n) × (j ≡ k)
     go false t h = absurd (let z : ◌≡◌ {A = ℕ} 0 1 = cc in omega arith)
     go true t h =
-        let s : x ≡ r = cc in
+        let s : x ≡ r = same_real h in
         let l : x < n = ltb-true x n t in
-        (refl, s, omega arith, cc)
+        (refl, s, omega arith, same_reach h)
 
 pub finds : (w n : ℕ) (acc : Access) (a r k : ℕ) → look_with w n acc a ≡ At r k → Finds w n acc a r k
 finds w n acc a r k e =
@@ -132,11 +167,11 @@ any_load map n acc a r k e =
 
 -- a refusal's place is the byte's own address
 within_place : (v : Verdict) (r k n a : ℕ) (c : Cause) (p : ℕ) → test_seven v r k n a ≡ Refused c p → a ≡ p
-within_place (bad d) r k n a c p h = cc
+within_place (bad d) r k n a c p h = same_place h
 within_place fine r k n a c p h = go (ltb r n) h
   where
     go : (b : Bool) → pick b (At r k) (Refused Addressing a) ≡ Refused c p → a ≡ p
-    go false j = cc
+    go false j = same_place j
     go true j = cc
 
 pub refused_place : (map : List ℕ) (n : ℕ) (acc : Access) (a : ℕ) (c : Cause) (p : ℕ) → look_of map n acc a ≡ Refused c p → a ≡ p

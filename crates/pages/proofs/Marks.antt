@@ -161,10 +161,6 @@ written_again map a b h = rw h (again written twice map (page_of a))
     twice x = unfold written in omega arith
 
 -- a mark that is there already need not be set
-pub accessed_new : (w : ℕ) → w / 16384 % 2 ≡ 0 → w + 16384 ≡ accessed w
-unfolding accessed
-accessed_new w h = omega arith
-
 pub accessed_old : (map : List ℕ) (p w : ℕ) → w ≡ get_or map p 0 → (w / 16384 % 2 ≡ 0 → ⊥) → map ≡ set map p (accessed w)
 unfolding accessed
 accessed_old map p w e h =

@@ -6,15 +6,14 @@ use mathlib.Core.Bool.{Bool, true, false}
 use mathlib.Core.List.{List}
 use borrow.Author.Tests.{ltb-true, ltb-false, lt-ltb, le-ltb}
 use lib.Dec.{eqb, ltb}
+use Rattle.std.specs.Prelude.{Ok, Err}
 use Rattle.words.specs.Pick.{pick}
 use Rattle.words.proofs.Choice.{by_order}
 use Rattle.pages.specs.declared.Access.{Access}
-use Rattle.pages.specs.declared.Look.{Look}
-use Rattle.pages.specs.declared.Look.TheVariants.{At, Refused}
 use Rattle.pages.specs.Word.{bit_m, page_of, disp_of, next, base, size, real, word_of}
 use Rattle.pages.specs.declared.Cause.TheVariants.{Addressing}
 use Rattle.pages.specs.Tests.{fine, tests}
-use Rattle.pages.specs.Look.{fewer, reach, look_of, verdict_of}
+use Rattle.pages.specs.Look.{Look, At, Refused, fewer, reach, look_of, verdict_of}
 use Rattle.pages.specs.Reach.{Together, Reaches}
 use Rattle.pages.proofs.LookLaws.{Finds, pass, finds_in, found_in_lem}
 
@@ -195,8 +194,8 @@ module _ (map : List ℕ) (n : ℕ) (acc : Access) (a r k : ℕ) (e : look_of ma
   reach_largest j t = by_order k j (λ h. absurd (go (look_of map n acc (a + k)) refl (t.right k h) (t.page k h))) (λ h. h)
     where
       go : (l : Look) → look_of map n acc (a + k) ≡ l → verdict_of l ≡ fine → page_of (a + k) ≡ page_of a → ⊥
-      go (At q i) s v p = beyond q i p s
-      go (Refused c b) s v p = absurd (let z : ◌≡◌ {A = ℕ} 0 1 = cc in omega arith)
+      go (Ok t) s v p = beyond t.at t.reach p s
+      go (Err e) s v p = absurd (let z : ◌≡◌ {A = ℕ} 0 1 = cc in omega arith)
 
   pub reaches : Reaches map n acc a r k
   reaches =

@@ -1,11 +1,9 @@
 -- The framed store: real memory and the map, and what a look, a read and a write of one virtual byte do to it.
-use Rattle.std.specs.Prelude.{ℕ, List, length, get_or, set}
+use Rattle.std.specs.Prelude.{ℕ, List, length, get_or, set, Ok, Err}
 use Rattle.pages.specs.declared.Access.{Access}
 use Rattle.pages.specs.declared.Access.TheVariants.{Load, Store}
-use Rattle.pages.specs.declared.Look.{Look}
-use Rattle.pages.specs.declared.Look.TheVariants.{At, Refused}
 use Rattle.pages.specs.Word.{page_of, word_of, accessed, written}
-use Rattle.pages.specs.Look.{look_of}
+use Rattle.pages.specs.Look.{Look, look_of}
 
 pub record Framed : Type 0 where
   pub mem : List ℕ
@@ -30,16 +28,16 @@ noted s a = framed_of s.mem (accessed_at s.map a)
 
 -- the byte at a; 0 where the look-up refuses (no program reads such a byte: see demand/proofs/LookedUpFirst)
 abbrev pub read_at : List ℕ → Look → ℕ
-read_at mem (At r k) = get_or mem r 0
-read_at mem (Refused c a) = 0
+read_at mem (Ok s) = get_or mem s.at 0
+read_at mem (Err e) = 0
 
 unfoldable pub read_byte : Framed → ℕ → ℕ
 read_byte s a = read_at s.mem (look_in s Load a)
 
 -- a byte stored at a, and W noted; nothing where the look-up refuses
 abbrev pub write_at : Framed → ℕ → ℕ → Look → Framed
-write_at s a v (At r k) = framed_of (set s.mem r v) (written_at s.map a)
-write_at s a v (Refused c b) = s
+write_at s a v (Ok t) = framed_of (set s.mem t.at v) (written_at s.map a)
+write_at s a v (Err e) = s
 
 unfoldable pub write_byte : Framed → ℕ → ℕ → Framed
 write_byte s a v = write_at s a v (look_in s Store a)

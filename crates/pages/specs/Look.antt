@@ -1,18 +1,32 @@
 -- A byte's look-up: a real address and how far the look-up reaches, or a refusal with its cause and its place, which is the byte's address.
-use Rattle.std.specs.Prelude.{ℕ, ◌-◌, List, [], ◌∷◌, ltb}
+use Rattle.std.specs.Prelude.{ℕ, ◌-◌, List, [], ◌∷◌, ltb, Result, Ok, Err}
 use Rattle.words.specs.Pick.{pick}
 use Rattle.words.specs.Said.{Said, says}
 use Rattle.pages.specs.declared.Access.{Access}
+use Rattle.pages.specs.declared.Cause.{Cause}
 use Rattle.pages.specs.declared.Cause.TheVariants.{Addressing}
-use Rattle.pages.specs.declared.Look.{Look}
-use Rattle.pages.specs.declared.Look.TheVariants.{At, Refused}
+use Rattle.pages.specs.declared.Spot.{Spot}
+use Rattle.pages.specs.declared.Refusal.{Refusal}
 use Rattle.pages.specs.Word.{page_of, disp_of, size, real, word_of}
 use Rattle.pages.specs.Tests.{Verdict, fine, bad, number_of, tests}
 
--- the enum's cases in document 01's terms: no refusal, the real address and the reach; or the refusal's number and its place
+-- what a look-up answers, and short names for its two cases
+abbrev pub Look : Type 0
+Look = Result Spot Refusal
+
+abbrev pub spot : ℕ → ℕ → Spot
+spot r k = record { at = r; reach = k }
+
+abbrev pub At : ℕ → ℕ → Look
+At r k = Ok (spot r k)
+
+abbrev pub Refused : Cause → ℕ → Look
+Refused c a = Err (record { cause = c; place = a })
+
+-- the cases in document 01's terms: no refusal, the real address and the reach; or the refusal's number and its place
 abbrev pub look_says : Look → Said (List ℕ)
-look_says (At r k) = says 0 (r ∷ k ∷ [])
-look_says (Refused c a) = says (number_of c) (a ∷ [])
+look_says (Ok s) = says 0 (s.at ∷ s.reach ∷ [])
+look_says (Err e) = says (number_of e.cause) (e.place ∷ [])
 
 -- of two numbers, the one that is not above the other
 abbrev pub fewer : ℕ → ℕ → ℕ
@@ -38,5 +52,5 @@ look_of map n acc a = look_with (word_of map (page_of a)) n acc a
 
 -- whether it was refused, and why
 abbrev pub verdict_of : Look → Verdict
-verdict_of (At r k) = fine
-verdict_of (Refused c a) = bad c
+verdict_of (Ok s) = fine
+verdict_of (Err e) = bad e.cause

@@ -2,10 +2,9 @@
 -- never fewer than 1 and always the largest such number. That the look-up's is this, and no other number is: proofs/ReachLaws.
 use Rattle.std.specs.Prelude.{ℕ, ◌+◌, ◌-◌, ◌<◌, ◌≤◌, ◌≡◌, List}
 use Rattle.pages.specs.declared.Access.{Access}
-use Rattle.pages.specs.declared.Look.TheVariants.{At}
 use Rattle.pages.specs.Word.{page_of}
 use Rattle.pages.specs.Tests.{fine}
-use Rattle.pages.specs.Look.{look_of, verdict_of}
+use Rattle.pages.specs.Look.{At, look_of, verdict_of}
 
 -- k bytes from address a on: each lies in a's page, and passes the tests for the same access, the last of which is that it is in memory
 pub record Together (map : List ℕ) (n : ℕ) (acc : Access) (a k : ℕ) : Type 0 where

@@ -17,9 +17,16 @@ pub enum Cause {
     PagingError,
 }
 
-// A byte's look-up: its real address and how far it reaches, or the cause and the place of the refusal.
+// A byte that was found: its real address, and how many bytes from there the look-up reaches.
 #[derive(Clone, Copy)]
-pub enum Look {
-    At(usize, u32),
-    Refused(Cause, u32),
+pub struct Spot {
+    pub at: usize,
+    pub reach: u32,
+}
+
+// A byte that was refused: the cause, and the byte's own address.
+#[derive(Clone, Copy)]
+pub struct Refusal {
+    pub cause: Cause,
+    pub place: u32,
 }

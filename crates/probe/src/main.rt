@@ -7,14 +7,14 @@
 mod case;
 mod told;
 
-use actions::{Now, Out};
+use actions::{Now, Stop};
 use case::{Head, Kind, Scalars};
 use code::SsAction;
 use machine::Reply;
-use pages::{Access, Look};
+use pages::{Access, Spot};
 use streams::Trouble;
 
-// What a look-up's byte is wanted for, by the number in the case.
+// What a look-up's byte is wanted for, by the number in the case. (No `TryFrom`: trait and type are both of other crates.)
 fn access_of(number: u32) -> Result<Access, Trouble> {
     match number {
         0 => Ok(Access::Fetch),
@@ -28,35 +28,11 @@ fn access_of(number: u32) -> Result<Access, Trouble> {
 fn look(rt: &HostRuntime, map: &[u16], size: usize, s: Scalars) -> Result<(), Trouble> {
     let access = access_of(s.code)?;
     match lookup::look_up(map, size, access, s.pc) {
-        Look::At(real, reach) => told::write_look(rt, 0, real, reach),
-        Look::Refused(cause, place) => told::write_look(
-            rt,
-            actions::number_of(cause),
-            place as usize,
-            0,
-        ),
-    }
-}
-
-// A step's reply, by what an executor answered.
-fn reply_of(out: Out, s: Scalars) -> Reply {
-    match out {
-        Out::Done(now) => Reply {
-            number: 0,
-            place: 0,
-            count: 1,
-            pc: now.pc,
-            code: now.code,
-            mask: now.mask,
-        },
-        Out::Stop(number, place) => Reply {
-            number,
-            place,
-            count: 0,
-            pc: s.pc,
-            code: s.code,
-            mask: s.mask,
-        },
+        Ok(Spot { at, reach }) => told::write_look(rt, 0, at, reach),
+        Err(refusal) => {
+            let number = Stop::from(refusal).number();
+            told::write_look(rt, number, refusal.place as usize, 0)
+        }
     }
 }
 
@@ -74,7 +50,7 @@ fn plain(mem: &mut [u8], map: &mut [u16], regs: &[u32], s: Scalars) -> Result<Re
     let c = Now { pc, code, mask };
     let split = decode::split_ss(h1, h2, h3);
     let out = rs_ss::plain::execute(regs, mem, map, c, action, split);
-    Ok(reply_of(out, s))
+    Ok(engine::door::step_reply(c, out))
 }
 
 // A case whose lists stand: its pieces, and the call.

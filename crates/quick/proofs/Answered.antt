@@ -6,18 +6,16 @@ use mathlib.Core.Bool.{Bool, true, false}
 use mathlib.Core.List.{List}
 use lib.Dec.{eqb}
 use Rattle.words.specs.Pick.{pick}
-use Rattle.words.specs.declared.Paired as words-paired
-use Rattle.words.specs.declared.Paired.TheVariants.{Value, DivideError}
 use Rattle.pages.specs.declared.Access.{Access}
-use Rattle.pages.specs.declared.Cause.{Cause}
-use Rattle.pages.specs.declared.Look.{Look}
-use Rattle.pages.specs.declared.Look.TheVariants.{At, Refused}
+use Rattle.pages.specs.declared.Spot.{Spot}
+use Rattle.pages.specs.Look.{spot}
 use Rattle.pages.proofs.ReachLaws.{reach_inside}
 use Rattle.lookup.specs.Marked.{MarkedLook}
 use Rattle.machine.specs.Prog.{Prog, done, fail, look, get, put}
 use Rattle.words.specs.declared.PairOp.{PairOp}
 use Rattle.words.specs.declared.Direction.{Direction}
-use Rattle.words.specs.Wide.{pair_of}
+use Rattle.words.specs.declared.Direction.TheVariants.{Left, Right}
+use Rattle.words.specs.Wide.{Paired, pair_of}
 use Rattle.code.specs.declared.RsFields.{RsFields}
 use Rattle.code.specs.declared.RrAction.TheVariants.{PairAndRegister}
 use Rattle.code.specs.declared.RsAction.TheVariants.{ShiftDouble}
@@ -27,13 +25,15 @@ use Rattle.machine.specs.Pairs.{pair, into_pair}
 use Rattle.machine.specs.Rr.{rr}
 use Rattle.machine.specs.Rs.{rs}
 use Rattle.actions.specs.declared.Now.{Now}
-use Rattle.actions.specs.declared.Out.{Out}
-use Rattle.actions.specs.declared.Out.TheVariants.{Done, Stop}
-use Rattle.actions.specs.Answered.{cpu_of, AnswersTo}
+use Rattle.std.specs.Prelude.{Option, Some, None, Ok, Err}
+use Rattle.actions.specs.declared.Stop.{Stop}
+use Rattle.actions.specs.Answered.{Out, cpu_of, AnswersTo}
+use Rattle.rs_ss.specs.Logical.{logical_shift}
 use Rattle.quick.specs.declared.Here.{Here}
 use Rattle.quick.specs.declared.Turn.{Turn}
 use Rattle.quick.specs.declared.Turn.TheVariants.{On, Away, Undone}
-use Rattle.quick.specs.Turns.{counter_at, now_at, now_of, Placed, Same, Ended, Gone, FieldLook, Lies, Did}
+use Rattle.quick.specs.Places.{counter_at, now_at}
+use Rattle.quick.specs.Turns.{now_of, Same, Ended, Gone, FieldLook, Lies, Did}
 use Rattle.quick.proofs.Onward.{stands_on, ahead_on}
 
 -- nothing done
@@ -41,7 +41,7 @@ pub same_here : (p : Here) → Same p (counter_at p.window p.at) p.code
 same_here p = record { counter = refl; still = refl }
 
 module _ (p : Here) (r : Turn) (e : r ≡ Undone (counter_at p.window p.at) p.code) where
-  pub did_not : (found : Look) (n len : ℕ) (work : ℕ → List ℕ × ℕ) (before : List ℕ) → Did r p found n len work before before
+  pub did_not : (found : Option Spot) (n len : ℕ) (work : ℕ → List ℕ × ℕ) (before : List ℕ) → Did r p found n len work before before
   unfolding Did
   did_not found n len work before = rw e (same_here p, refl)
 
@@ -50,15 +50,15 @@ module _ (p : Here) (r : Turn) (e : r ≡ Undone (counter_at p.window p.at) p.co
   ended_not prog regs regs' er = rw e (same_here p, er)
 
 -- a row with one operand, done
-pub did_on : (p : Here) (found : Look) (n len : ℕ) (work : ℕ → List ℕ × ℕ) (before after : List ℕ) (k i reach : ℕ)
-    → found ≡ At i reach → n ≤ reach → after ≡ (work i).0 → k ≡ (work i).1 → Did (On (p.at + len) k) p found n len work before after
+pub did_on : (p : Here) (found : Option Spot) (n len : ℕ) (work : ℕ → List ℕ × ℕ) (before after : List ℕ) (k i reach : ℕ)
+    → found ≡ Some (spot i reach) → n ≤ reach → after ≡ (work i).0 → k ≡ (work i).1 → Did (On (p.at + len) k) p found n len work before after
 unfolding Did
 did_on p found n len work before after k i reach e h c d =
     record { i = i; reach = reach; there = e; far = h; on = refl; changed = c; coded = d }
 
 -- what was found can be read and stored there
-pub lies_room : (found : Look) (size i k n : ℕ) → Lies found size → found ≡ At i k → n ≤ k → i + n ≤ size
-lies_room found size i k n l e h = let z = l i k e in omega (arith, z, h)
+pub lies_room : (found : Option Spot) (size i k n : ℕ) → Lies found size → found ≡ Some (spot i k) → n ≤ k → i + n ≤ size
+lies_room found size i k n l e h = let z : i + k ≤ size = rw e at l in omega (arith, z, h)
 
 -- the counter and the mask that a program ends with
 abbrev pc_of : Prog Cpu → ℕ
@@ -75,15 +75,26 @@ mask_of (look acc a k) = 0
 mask_of (get a k) = 0
 mask_of (put a v k) = 0
 
+-- what SLL and SRL end with
+pub shift_pc : (to : Direction) (f : RsFields) (c : Cpu) → pc_of (rs (logical_shift to) f c) ≡ ahead c 4
+unfolding rs
+shift_pc Left f c = refl
+shift_pc Right f c = refl
+
+pub shift_mask : (to : Direction) (f : RsFields) (c : Cpu) → mask_of (rs (logical_shift to) f c) ≡ c.mask
+unfolding rs
+shift_mask Left f c = refl
+shift_mask Right f c = refl
+
 -- a program without storage that goes on behind the instruction
-module _ (p : Here) (h : Placed p) (regs regs' : List ℕ) (len : ℕ) (ev : len % 2 ≡ 0) (l : len ≤ 6) (n : Now) where
+module _ (p : Here) (regs regs' : List ℕ) (len : ℕ) (ev : len % 2 ≡ 0) (l : len ≤ 6) (n : Now) where
   pub goes_on_lem : (prog : Cpu → Prog Cpu) → done (cpu_of regs' n) ≡ prog (cpu_of regs (now_of p)) → n.pc ≡ ahead (cpu_of regs (now_of p)) len
       → n.mask ≡ p.mask → Ended (On (p.at + len) n.code) p prog regs regs'
   unfolding Ended
-  goes_on_lem prog e ep em = (go ∙ e, stands_on p h len ev l)
+  goes_on_lem prog e ep em = (go ∙ e, stands_on p len ev l)
     where
       counter : counter_at p.window (p.at + len) ≡ n.pc
-      counter = sym (ahead_on p h regs len l) ∙ sym ep
+      counter = sym (ahead_on p regs len l) ∙ sym ep
 
       go : done (cpu_of regs' (now_at p.window (p.at + len) n.code p.mask)) ≡ done (cpu_of regs' n)
       go =
@@ -97,40 +108,40 @@ module _ (p : Here) (h : Placed p) (regs regs' : List ℕ) (len : ℕ) (ev : len
       goes_on_lem (prog g) k (ap pc_of k ∙ ep) (ap mask_of k ∙ em)
 
   -- the same of one whose answer may be a refusal
-  into_ends : (q : words-paired.Paired) (r : ℕ) (c d : Cpu) → done d ≡ into_pair q len r c → (d.pc ≡ ahead c len) × (d.mask ≡ c.mask)
+  into_ends : (q : Paired) (r : ℕ) (c d : Cpu) → done d ≡ into_pair q len r c → (d.pc ≡ ahead c len) × (d.mask ≡ c.mask)
   unfolding into_pair
-  into_ends (Value v) r c d e = (ap pc_of e, ap mask_of e)
-  into_ends DivideError r c d e = absurd (let z : ◌≡◌ {A = ℕ} 0 1 = cc in omega arith)
+  into_ends (Ok v) r c d e = (ap pc_of e, ap mask_of e)
+  into_ends (Err x) r c d e = absurd (let z : ◌≡◌ {A = ℕ} 0 1 = cc in omega arith)
 
 -- of a program that wants an even register, one that ends has had it
 pub even_ends : (b : Bool) (k : Prog Cpu) (x y : ℕ) (d : Cpu) → done d ≡ pick b k (fail x y) → done d ≡ k
 even_ends true k x y d e = e
 even_ends false k x y d e = absurd (let z : ◌≡◌ {A = ℕ} 0 1 = cc in omega arith)
 
-pub out_done : (o : Out) (n : Now) (regs regs' : List ℕ) (q : Prog Cpu) → AnswersTo o regs regs' q → o ≡ Done n → done (cpu_of regs' n) ≡ q
+pub out_done : (o : Out) (n : Now) (regs regs' : List ℕ) (q : Prog Cpu) → AnswersTo o regs regs' q → o ≡ Ok n → done (cpu_of regs' n) ≡ q
 unfolding AnswersTo
 out_done o n regs regs' q h e = rw e at h
 
-pub out_stopped : (o : Out) (k a : ℕ) (regs regs' : List ℕ) (q : Prog Cpu) → AnswersTo o regs regs' q → o ≡ Stop k a → regs' ≡ regs
+pub out_stopped : (o : Out) (k : Stop) (regs regs' : List ℕ) (q : Prog Cpu) → AnswersTo o regs regs' q → o ≡ Err k → regs' ≡ regs
 unfolding AnswersTo
-out_stopped o k a regs regs' q h e = (rw e at h).1
+out_stopped o k regs regs' q h e = (rw e at h).1
 
-module _ (p : Here) (h : Placed p) (regs regs' : List ℕ) (len : ℕ) (ev : len % 2 ≡ 0) (l : len ≤ 6) (o : Out) (n : Now) (eo : o ≡ Done n) (c : Now) (ec : c ≡ now_of p) where
+module _ (p : Here) (regs regs' : List ℕ) (len : ℕ) (ev : len % 2 ≡ 0) (l : len ≤ 6) (o : Out) (n : Now) (eo : o ≡ Ok n) (c : Now) (ec : c ≡ now_of p) where
   -- into a pair
-  pub paired_plain : (prog : Cpu → Prog Cpu) (r : ℕ) (q : words-paired.Paired) → prog (cpu_of regs (now_of p)) ≡ into_pair q len r (cpu_of regs (now_of p))
+  pub paired_plain : (prog : Cpu → Prog Cpu) (r : ℕ) (q : Paired) → prog (cpu_of regs (now_of p)) ≡ into_pair q len r (cpu_of regs (now_of p))
       → AnswersTo o regs regs' (prog (cpu_of regs c)) → Ended (On (p.at + len) n.code) p prog regs regs'
   paired_plain prog r q ep a =
       let f : done (cpu_of regs' n) ≡ prog (cpu_of regs (now_of p)) = out_done o n regs regs' _ a eo ∙ ap (λ (z : Now). prog (cpu_of regs z)) ec in
-      let g = into_ends p h regs regs' len ev l n q r (cpu_of regs (now_of p)) (cpu_of regs' n) (f ∙ ep) in
-      goes_on_lem p h regs regs' len ev l n prog f g.0 g.1
+      let g = into_ends p regs regs' len ev l n q r (cpu_of regs (now_of p)) (cpu_of regs' n) (f ∙ ep) in
+      goes_on_lem p regs regs' len ev l n prog f g.0 g.1
 
-  pub paired_on : (prog : Cpu → Prog Cpu) (b : Bool) (x y r : ℕ) (q : words-paired.Paired)
+  pub paired_on : (prog : Cpu → Prog Cpu) (b : Bool) (x y r : ℕ) (q : Paired)
       → prog (cpu_of regs (now_of p)) ≡ pick b (into_pair q len r (cpu_of regs (now_of p))) (fail x y)
       → AnswersTo o regs regs' (prog (cpu_of regs c)) → Ended (On (p.at + len) n.code) p prog regs regs'
   paired_on prog b x y r q ep a =
       let f : done (cpu_of regs' n) ≡ prog (cpu_of regs (now_of p)) = out_done o n regs regs' _ a eo ∙ ap (λ (z : Now). prog (cpu_of regs z)) ec in
-      let g = into_ends p h regs regs' len ev l n q r (cpu_of regs (now_of p)) (cpu_of regs' n) (even_ends b _ x y (cpu_of regs' n) (f ∙ ep)) in
-      goes_on_lem p h regs regs' len ev l n prog f g.0 g.1
+      let g = into_ends p regs regs' len ev l n q r (cpu_of regs (now_of p)) (cpu_of regs' n) (even_ends b _ x y (cpu_of regs' n) (f ∙ ep)) in
+      goes_on_lem p regs regs' len ev l n prog f g.0 g.1
 
   pub doubled_on : (prog : Cpu → Prog Cpu) (b : Bool) (x y : ℕ) (d : Cpu) → prog (cpu_of regs (now_of p)) ≡ pick b (done d) (fail x y)
       → d.pc ≡ ahead (cpu_of regs (now_of p)) len → d.mask ≡ p.mask
@@ -138,7 +149,7 @@ module _ (p : Here) (h : Placed p) (regs regs' : List ℕ) (len : ℕ) (ev : len
   doubled_on prog b x y d ep e1 e2 a =
       let f : done (cpu_of regs' n) ≡ prog (cpu_of regs (now_of p)) = out_done o n regs regs' _ a eo ∙ ap (λ (z : Now). prog (cpu_of regs z)) ec in
       let g = even_ends b _ x y (cpu_of regs' n) (f ∙ ep) in
-      goes_on_lem p h regs regs' len ev l n prog f (ap pc_of g ∙ e1) (ap mask_of g ∙ e2)
+      goes_on_lem p regs regs' len ev l n prog f (ap pc_of g ∙ e1) (ap mask_of g ∙ e2)
 
   -- MR DR, SLDA SRDA
   pub rr_paired : (op : PairOp) (h1 : ℕ) → AnswersTo o regs regs' (rr (PairAndRegister op) (rr_of h1) (cpu_of regs c)) → len ≡ 2
@@ -170,26 +181,22 @@ module _ (p : Here) (regs' : List ℕ) (d : Cpu) (er : d.regs ≡ regs') (to : �
   gone_ends prog regs (Undone q k) e g = absurd g
 
 -- a look-up for an operand
-pub field_off : (c : Cause) (b : ℕ) (map : List ℕ) (size : ℕ) (acc : Access) (n a : ℕ) → FieldLook (Refused c b) map size acc n a
+pub field_off : (map : List ℕ) (size : ℕ) (acc : Access) (n a : ℕ) → FieldLook None map size acc n a
 unfolding FieldLook
-field_off c b map size acc n a = record {}
+field_off map size acc n a = record {}
 
-pub field_on : (found : Look) (map : List ℕ) (size : ℕ) (acc : Access) (n a : ℕ) → a % n ≡ 0 → MarkedLook found map size acc a → FieldLook found map size acc n a
-unfolding FieldLook MarkedLook
-field_on (At r k) map size acc n a e m = (e, m)
-field_on (Refused c b) map size acc n a e m = m
-
-pub field_lies : (found : Look) (map : List ℕ) (size : ℕ) (acc : Access) (n a : ℕ) → FieldLook found map size acc n a → Lies found size
+pub field_on : (found : Option Spot) (map : List ℕ) (size : ℕ) (acc : Access) (n a : ℕ) → a % n ≡ 0 → MarkedLook found map size acc a → FieldLook found map size acc n a
 unfolding FieldLook
-field_lies (At r k) map size acc n a (e, m) i j f =
-    let z : r ≡ i = cc in
-    let y : k ≡ j = cc in
-    let g = reach_inside map size acc a r k m.there in
-    omega (arith, g, z, y)
-field_lies (Refused c b) map size acc n a m i j f = absurd (let z : ◌≡◌ {A = ℕ} 0 1 = cc in omega arith)
+field_on (Some s) map size acc n a e m = (e, m)
+field_on None map size acc n a e m = m
 
-pub lies_byte : (found : Look) (size i k : ℕ) → Lies found size → found ≡ At i k → 1 ≤ k → i < size
-lies_byte found size i k l e h = let z = l i k e in omega (arith, z, h)
+pub field_lies : (found : Option Spot) (map : List ℕ) (size : ℕ) (acc : Access) (n a : ℕ) → FieldLook found map size acc n a → Lies found size
+unfolding FieldLook
+field_lies (Some s) map size acc n a (e, m) = reach_inside map size acc a s.at s.reach m.there
+field_lies None map size acc n a m = m
 
-pub field_at : (found : Look) (map : List ℕ) (size : ℕ) (acc : Access) (n a b : ℕ) → a ≡ b → FieldLook found map size acc n a → FieldLook found map size acc n b
+pub lies_byte : (found : Option Spot) (size i k : ℕ) → Lies found size → found ≡ Some (spot i k) → 1 ≤ k → i < size
+lies_byte found size i k l e h = let z : i + k ≤ size = rw e at l in omega (arith, z, h)
+
+pub field_at : (found : Option Spot) (map : List ℕ) (size : ℕ) (acc : Access) (n a b : ℕ) → a ≡ b → FieldLook found map size acc n a → FieldLook found map size acc n b
 field_at found map size acc n a b e h = subst (λ (x : ℕ). FieldLook found map size acc n x) e h

@@ -18,7 +18,7 @@ use Rattle.quick.specs.declared.Window.{Window}
 use Rattle.quick.specs.declared.Here.{Here}
 use Rattle.quick.specs.declared.Turn.{Turn}
 use Rattle.quick.specs.declared.Turn.TheVariants.{On, Away}
-use Rattle.quick.specs.Turns.{now_of, Placed, Ended, Gone}
+use Rattle.quick.specs.Turns.{now_of, Ended, Gone}
 use Rattle.quick.proofs.Onward.{target_place, target_stands}
 use Rattle.quick.proofs.Answered.{goes_on_lem, gone_ends}
 
@@ -31,14 +31,14 @@ unfolding Gone
 gone_out w to code = (refl, refl)
 
 -- registers at exit are those of d, a state behind the instruction; it goes, or it doesn't
-module _ (p : Here) (h : Placed p) (regs regs' : List ℕ) (prog : Cpu → Prog Cpu) (b : Bool) (to len : ℕ) (eb : prog (cpu_of regs (now_of p)) ≡ done (going b to (record { regs = regs'; pc = ahead (cpu_of regs (now_of p)) len; code = p.code; mask = p.mask }))) where
+module _ (p : Here) (regs regs' : List ℕ) (prog : Cpu → Prog Cpu) (b : Bool) (to len : ℕ) (eb : prog (cpu_of regs (now_of p)) ≡ done (going b to (record { regs = regs'; pc = ahead (cpu_of regs (now_of p)) len; code = p.code; mask = p.mask }))) where
   pub went : b ≡ true → (t : Turn) → Gone t p.window to p.code → Ended t p prog regs regs'
   went e t g =
       gone_ends p regs' (record { regs = regs'; pc = to; code = p.code; mask = p.mask }) refl to refl refl refl prog regs t (eb ∙ rw e) g
 
   pub stayed : len % 2 ≡ 0 → len ≤ 6 → b ≡ false → Ended (On (p.at + len) p.code) p prog regs regs'
   stayed ev l e =
-      goes_on_lem p h regs regs' len ev l (record { pc = ahead (cpu_of regs (now_of p)) len; code = p.code; mask = p.mask }) prog (sym (eb ∙ rw e)) refl refl
+      goes_on_lem p regs regs' len ev l (record { pc = ahead (cpu_of regs (now_of p)) len; code = p.code; mask = p.mask }) prog (sym (eb ∙ rw e)) refl refl
 
 module _ (p : Here) (regs : List ℕ) (len r to : ℕ) (may : Bool) where
   pub on_condition : (done (branch OnCondition len r to may (cpu_of regs (now_of p)))) ≡ done (going (both may (chosen r p.code)) to (record { regs = regs; pc = ahead (cpu_of regs (now_of p)) len; code = p.code; mask = p.mask }))

@@ -4,28 +4,23 @@ use native.Mathlib.Omega.{arith}
 use mathlib.Core.Path.{◌≡◌, refl, sym, ◌∙◌, ap}
 use mathlib.Core.List.{List}
 use lib.ListN.{length}
+use Rattle.std.specs.Prelude.{Ok, Err}
 use Rattle.pages.specs.declared.Access.TheVariants.{Load, Store}
-use Rattle.pages.specs.declared.Cause.{Cause}
-use Rattle.pages.specs.declared.Look.{Look}
-use Rattle.pages.specs.declared.Look.TheVariants.{At, Refused}
+use Rattle.pages.specs.declared.Refusal.{Refusal}
+use Rattle.pages.specs.Look.{Look, At}
 use Rattle.pages.specs.Framed.{Framed, framed_of}
 use Rattle.pages.proofs.ReachLaws.{reach_inside}
 use Rattle.pages.specs.declared.Access.{Access}
-use Rattle.lookup.specs.Marked.{MarkedLook, Found}
-use Rattle.fields.specs.declared.Order.{Order}
-use Rattle.fields.specs.declared.Order.TheVariants.{Code, Barred}
+use Rattle.lookup.specs.Marked.{Found}
 use Rattle.fields.specs.Direct.{note_field, move_field, compare_field, flat_move, flat_compare}
-use Rattle.fields.specs.Both.{look_both, note_both, moved_by, order_of, noted_by}
+use Rattle.fields.specs.Both.{Order, look_both, note_both, moved_by, order_of, noted_by}
 use Rattle.rs_ss.proofs.BothReached.{both_found, field_noted, both_moved, both_compared}
 use Rattle.quick.specs.declared.Here.{Here}
 use Rattle.quick.specs.declared.Turn.{Turn}
 use Rattle.quick.specs.declared.Turn.TheVariants.{On, Undone}
-use Rattle.quick.specs.Turns.{counter_at, Moved, Compared}
+use Rattle.quick.specs.Places.{counter_at}
+use Rattle.quick.specs.Turns.{Moved, Compared}
 use Rattle.quick.proofs.Answered.{same_here}
-
-pub marked_is : (found : Look) (map : List ℕ) (size : ℕ) (acc : Access) (a r k : ℕ) → MarkedLook found map size acc a → found ≡ At r k → Found map size acc a r k
-unfolding MarkedLook
-marked_is found map size acc a r k h e = rw e at h
 
 pub marked_room : (map : List ℕ) (size : ℕ) (acc : Access) (a r k n : ℕ) → Found map size acc a r k → n ≤ k → r + n ≤ size
 marked_room map size acc a r k n f h = let g = reach_inside map size acc a r k f.there in omega (arith, g, h)
@@ -41,16 +36,16 @@ module _ (p : Here) (r : Turn) (e : r ≡ Undone (counter_at p.window p.at) p.co
   compared_not first second n mem map map' ep = rw e (same_here p, ep)
 
 -- what a refused move leaves
-pub refused_mem : (found : Look) (c : Cause) (b : ℕ) (mem map mem' map' : List ℕ) (to from n : ℕ) → framed_of mem' map' ≡ moved_by found mem map to from n
-    → found ≡ Refused c b → (mem' ≡ mem) × (map' ≡ map)
-refused_mem found c b mem map mem' map' to from n h e =
+pub refused_mem : (found : Look) (q : Refusal) (mem map mem' map' : List ℕ) (to from n : ℕ) → framed_of mem' map' ≡ moved_by found mem map to from n
+    → found ≡ Err q → (mem' ≡ mem) × (map' ≡ map)
+refused_mem found q mem map mem' map' to from n h e =
     let k : framed_of mem' map' ≡ framed_of mem map = h ∙ ap (λ (x : Look). moved_by x mem map to from n) e in
     (ap (λ (s : Framed). s.mem) k, ap (λ (s : Framed). s.map) k)
 
-pub barred_look : (look : Look) (order : Order) (mem map map' : List ℕ) (a b n : ℕ) (c : Cause) (q : ℕ) → order ≡ order_of look mem map a b n → order ≡ Barred c q
+pub barred_look : (look : Look) (order : Order) (mem map map' : List ℕ) (a b n : ℕ) (q : Refusal) → order ≡ order_of look mem map a b n → order ≡ Err q
     → map' ≡ noted_by look map a b n → map' ≡ map
-barred_look (At r k) order mem map map' a b n c q e f m = absurd (let z : ◌≡◌ {A = ℕ} 0 1 = cc in omega arith)
-barred_look (Refused d x) order mem map map' a b n c q e f m = m
+barred_look (Ok s) order mem map map' a b n q e f m = absurd (let z : ◌≡◌ {A = ℕ} 0 1 = cc in omega arith)
+barred_look (Err r) order mem map map' a b n q e f m = m
 
 -- n bytes, as L says
 module _ (p : Here) (a b n l : ℕ) (en : n ≡ suc l) (mem map : List ℕ) where
@@ -67,22 +62,22 @@ module _ (p : Here) (a b n l : ℕ) (en : n ≡ suc l) (mem map : List ℕ) wher
         still = refl;
       }
 
-  pub compared_over : (look : Look) (order : Order) (k : ℕ) → look ≡ look_both map (length mem) Load a b n → order ≡ order_of look mem map a b n → order ≡ Code k
+  pub compared_over : (look : Look) (order : Order) (k : ℕ) → look ≡ look_both map (length mem) Load a b n → order ≡ order_of look mem map a b n → order ≡ Ok k
       → (map' : List ℕ) → map' ≡ noted_by look map a b n → Compared (On (p.at + 6) k) p a b (suc l) mem map map'
   unfolding Compared
-  compared_over (At r q) order k e f g map' m =
+  compared_over (Ok s) order k e f g map' m =
       record {
-        i = r;
-        reach = q;
+        i = s.at;
+        reach = s.reach;
         there = rw (← en) (sym e);
         order = rw (← en) (codes k _ (sym g ∙ f));
         marks = rw (← en) m;
         on = refl;
       }
     where
-      codes : (x y : ℕ) → Code x ≡ Code y → x ≡ y
+      codes : (x y : ℕ) → ◌≡◌ {A = Order} (Ok x) (Ok y) → x ≡ y
       codes x y z = cc
-  compared_over (Refused c q) order k e f g map' m = absurd (let z : ◌≡◌ {A = ℕ} 0 1 = cc in omega arith)
+  compared_over (Err q) order k e f g map' m = absurd (let z : ◌≡◌ {A = ℕ} 0 1 = cc in omega arith)
 
   -- both reached
   module _ (x room y more : ℕ) (far : n ≤ room) (far' : n ≤ more) (here : Found map (length mem) Load b y more) where
@@ -110,8 +105,8 @@ module _ (p : Here) (a b n l : ℕ) (en : n ≡ suc l) (mem map : List ℕ) wher
 
     pub compared_flat : Found map (length mem) Load a x room → (k : ℕ) → k ≡ flat_compare mem x y n → Compared (On (p.at + 6) k) p a b (suc l) mem map map
     compared_flat there k ek =
-        compared_over (At x room) (Code k) k found
-        (ap Code (both_compared mem map a b n (At x room) (At y more) (sym here.there) x room y more refl refl far far' map map n1 n2 (sym there.there) k ek ∙ ap (λ (m : List ℕ). compare_field (framed_of mem m) a b n) both)) refl map both
+        compared_over (At x room) (Ok k) k found
+        (ap Ok (both_compared mem map a b n (At x room) (At y more) (sym here.there) x room y more refl refl far far' map map n1 n2 (sym there.there) k ek ∙ ap (λ (m : List ℕ). compare_field (framed_of mem m) a b n) both)) refl map both
       where
         n1 : map ≡ note_field map a n
         n1 = field_noted map (length mem) Load a x room n (At x room) (sym there.there) refl some far map map there.accessed

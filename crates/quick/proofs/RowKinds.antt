@@ -4,13 +4,14 @@ use native.Mathlib.Omega.{arith}
 use mathlib.Core.Path.{◌≡◌, refl, sym, ◌∙◌, ap, subst}
 use mathlib.Core.List.{List}
 use lib.ListN.{length, get_or}
+use Rattle.std.specs.Prelude.{Option, Some}
 use Rattle.words.specs.declared.Logic.{Logic}
 use Rattle.words.specs.declared.PairOp.{PairOp}
 use Rattle.words.specs.Wide.{pair_of}
 use Rattle.pages.specs.declared.Access.{Access}
 use Rattle.pages.specs.declared.Access.TheVariants.{Load, Store}
-use Rattle.pages.specs.declared.Look.{Look}
-use Rattle.pages.specs.declared.Look.TheVariants.{At}
+use Rattle.pages.specs.declared.Spot.{Spot}
+use Rattle.pages.specs.Look.{spot, At}
 use Rattle.pages.specs.Framed.{framed_of}
 use Rattle.lookup.specs.Marked.{Found}
 use Rattle.code.specs.declared.Operand.{Operand}
@@ -43,7 +44,8 @@ use Rattle.rs_ss.proofs.MultiplesReached.{words_filled, words_spilled}
 use Rattle.quick.specs.declared.Here.{Here}
 use Rattle.quick.specs.declared.Turn.{Turn}
 use Rattle.quick.specs.declared.Turn.TheVariants.{On, Away, Undone}
-use Rattle.quick.specs.Turns.{counter_at, now_at, now_of, Stands, Placed, Comes, Turned, Ended, FieldLook, Did, pairs}
+use Rattle.quick.specs.Places.{counter_at, now_at, Stands}
+use Rattle.quick.specs.Turns.{now_of, Comes, Turned, Ended, FieldLook, Did, pairs}
 use Rattle.quick.specs.Work.{taken_at, loads, stores, compares_byte, tests_byte, changes_byte, puts_byte, many_of, fills, spills}
 use Rattle.quick.proofs.Onward.{stands_on, ahead_on}
 
@@ -67,14 +69,14 @@ as_whole_lem (Away q k) p h2 h3 op prog regs mem map regs' mem' map' e f h =
 as_whole_lem (Undone q k) p h2 h3 op prog regs mem map regs' mem' map' e f h = h
 
 -- what was found, by the look-up of the operand
-pub found_is : (found : Look) (map : List ℕ) (size : ℕ) (acc : Access) (n a i k : ℕ) → FieldLook found map size acc n a → found ≡ At i k
+pub found_is : (found : Option Spot) (map : List ℕ) (size : ℕ) (acc : Access) (n a i k : ℕ) → FieldLook found map size acc n a → found ≡ Some (spot i k)
     → (a % n ≡ 0) × Found map size acc a i k
 unfolding FieldLook
 found_is found map size acc n a i k h e = rw e at h
 
 -- a row whose work changes registers, and one whose work changes memory
-module _ (t : Turn) (p : Here) (pl : Placed p) (found : Look) (n len : ℕ) (ev : len % 2 ≡ 0) (l : len ≤ 6) (work : ℕ → List ℕ × ℕ) (prog : Cpu → Prog Cpu) (regs mem map : List ℕ) where
-  pub into_registers : ((i k : ℕ) → found ≡ At i k → n ≤ k → Comes prog (now_of p) (now_at p.window (p.at + len) (work i).1 p.mask) regs mem map (work i).0 mem map)
+module _ (t : Turn) (p : Here) (found : Option Spot) (n len : ℕ) (ev : len % 2 ≡ 0) (l : len ≤ 6) (work : ℕ → List ℕ × ℕ) (prog : Cpu → Prog Cpu) (regs mem map : List ℕ) where
+  pub into_registers : ((i k : ℕ) → found ≡ Some (spot i k) → n ≤ k → Comes prog (now_of p) (now_at p.window (p.at + len) (work i).1 p.mask) regs mem map (work i).0 mem map)
       → (regs' : List ℕ) → Did t p found n len work regs regs' → Turned t p prog regs mem map regs' mem map
   unfolding Did Turned
   into_registers f regs' = go t
@@ -85,12 +87,12 @@ module _ (t : Turn) (p : Here) (pl : Placed p) (found : Look) (n len : ℕ) (ev 
             subst (λ (x : ℕ). Comes prog (now_of p) (now_at p.window (p.at + len) x p.mask) regs mem map regs' mem map) (sym d.coded)
                 (subst (λ (x : List ℕ). Comes prog (now_of p) (now_at p.window (p.at + len) (work d.i).1 p.mask) regs mem map x mem map) (sym d.changed)
                 (f d.i d.reach d.there d.far)),
-            stands_on p pl len ev l,
+            stands_on p len ev l,
           )
       go (Away q k) d = absurd d
       go (Undone q k) (s, e) = (s, (e, (refl, refl)))
 
-  pub into_memory : ((i k : ℕ) → found ≡ At i k → n ≤ k → Comes prog (now_of p) (now_at p.window (p.at + len) (work i).1 p.mask) regs mem map regs (work i).0 map)
+  pub into_memory : ((i k : ℕ) → found ≡ Some (spot i k) → n ≤ k → Comes prog (now_of p) (now_at p.window (p.at + len) (work i).1 p.mask) regs mem map regs (work i).0 map)
       → (mem' : List ℕ) → Did t p found n len work mem mem' → Turned t p prog regs mem map regs mem' map
   unfolding Did Turned
   into_memory f mem' = go t
@@ -101,7 +103,7 @@ module _ (t : Turn) (p : Here) (pl : Placed p) (found : Look) (n len : ℕ) (ev 
             subst (λ (x : ℕ). Comes prog (now_of p) (now_at p.window (p.at + len) x p.mask) regs mem map regs mem' map) (sym d.coded)
                 (subst (λ (x : List ℕ). Comes prog (now_of p) (now_at p.window (p.at + len) (work d.i).1 p.mask) regs mem map regs x map) (sym d.changed)
                 (f d.i d.reach d.there d.far)),
-            stands_on p pl len ev l,
+            stands_on p len ev l,
           )
       go (Away q k) d = absurd d
       go (Undone q k) (s, e) = (s, (refl, (e, refl)))
@@ -115,9 +117,9 @@ module _ (mem map : List ℕ) (acc : Access) (a i k n : ℕ) (f : Found map (len
   noted = field_noted map (length mem) acc a i k n (At i k) (sym f.there) refl some far map map f.accessed
 
 -- where the instruction ends
-module _ (p : Here) (pl : Placed p) (regs : List ℕ) where
+module _ (p : Here) (regs : List ℕ) where
   next_is : counter_at p.window (p.at + 4) ≡ ahead (cpu_of regs (now_of p)) 4
-  next_is = sym (ahead_on p pl regs 4 (omega arith))
+  next_is = sym (ahead_on p regs 4 (omega arith))
 
   -- L .. X, LH .. MH, IC
   pub load_comes : (mem map : List ℕ) (op : Operand) (h2 a i k : ℕ) → a ≡ rx_address (rx_of p.text h2) (cpu_of regs (now_of p)) → a % bytes_of (width_of op) ≡ 0

@@ -1,12 +1,12 @@
 -- The quick way's answers in the definitions' terms: where a place of the window's page is, and what a row leaves behind. An instruction is
 -- done whole, and then it is the definition's step, or nothing is done.
-use Rattle.std.specs.Prelude.{ℕ, ◌+◌, ◌-◌, ◌%◌, ◌<◌, ◌≤◌, ◌≡◌, List, length}
+use Rattle.std.specs.Prelude.{ℕ, ◌+◌, ◌%◌, ◌≤◌, ◌≡◌, List, length, Option, Some, Ok, IfSome}
 use Rattle.pages.specs.declared.Access.{Access}
 use Rattle.pages.specs.declared.Access.TheVariants.{Load, Store}
-use Rattle.pages.specs.declared.Look.{Look}
-use Rattle.pages.specs.declared.Look.TheVariants.{At, Refused}
+use Rattle.pages.specs.declared.Spot.{Spot}
+use Rattle.pages.specs.Look.{spot, At}
 use Rattle.pages.specs.Framed.{framed_of}
-use Rattle.lookup.specs.Marked.{Found, Nothing}
+use Rattle.lookup.specs.Marked.{Found}
 use Rattle.words.specs.declared.PairOp.{PairOp}
 use Rattle.words.specs.Wide.{pair_of}
 use Rattle.code.specs.Formats.{left_of, right_of, base_of, displacement_of}
@@ -16,34 +16,16 @@ use Rattle.machine.specs.Prog.{Prog, done}
 use Rattle.machine.specs.Cpu.{Cpu, address}
 use Rattle.machine.specs.Pairs.{pair, into_pair}
 use Rattle.actions.specs.declared.Now.{Now}
-use Rattle.actions.specs.declared.Out.TheVariants.{Done}
 use Rattle.actions.specs.Answered.{cpu_of, told, doing}
 use Rattle.quick.specs.declared.Window.{Window}
 use Rattle.quick.specs.declared.Here.{Here}
 use Rattle.quick.specs.declared.Turn.{Turn}
 use Rattle.quick.specs.declared.Turn.TheVariants.{On, Away, Undone}
+use Rattle.quick.specs.Places.{counter_at, now_at, Stands}
 
--- the counter of an instruction that lies at this place in memory, and the state's scalars there
-abbrev pub counter_at : Window → ℕ → ℕ
-counter_at w at = w.first + (at - w.base)
-
-abbrev pub now_at : Window → ℕ → ℕ → ℕ → Now
-now_at w at code mask = record { pc = counter_at w at; code = code; mask = mask }
-
+-- the state's scalars where a run is
 abbrev pub now_of : Here → Now
 now_of p = now_at p.window p.at p.code p.mask
-
--- a place to go on from: not before the page, and the counter is even, and a word
-pub record Stands (w : Window) (at : ℕ) : Type 0 where
-  pub behind : w.base ≤ at
-  pub even : counter_at w at % 2 ≡ 0
-  pub word : counter_at w at < 4294967296
-
--- a place that an instruction is done at: no sum of it leaves its range, nor does the counter wrap
-pub record Placed (p : Here) : Type 0 where
-  pub stands : Stands p.window p.at
-  pub near : counter_at p.window p.at + 6 < 16777216
-  pub fits : p.window.base + p.window.len ≤ 9223372036854775807
 
 -- the lists have their sizes
 pub record Sized (regs map : List ℕ) : Type 0 where
@@ -58,7 +40,7 @@ pub record Same (p : Here) (q k : ℕ) : Type 0 where
 -- an instruction that was done comes to what a program comes to
 abbrev pub Comes : (Cpu → Prog Cpu) → Now → Now → (regs mem map regs' mem' map' : List ℕ) → Type 0
 Comes prog c n regs mem map regs' mem' map' =
-    told (Done n) regs' c (framed_of mem' map') ≡ doing prog regs c (framed_of mem map)
+    told (Ok n) regs' c (framed_of mem' map') ≡ doing prog regs c (framed_of mem map)
 
 unfoldable pub Turned : Turn → Here → (Cpu → Prog Cpu) → (regs mem map regs' mem' map' : List ℕ) → Type 0
 Turned (On a k) p prog regs mem map regs' mem' map' =
@@ -87,26 +69,25 @@ abbrev pub address_at : List ℕ → Now → List ℕ → (x at : ℕ) → ℕ
 address_at regs c mem x at = address (cpu_of regs c) (right_of x) (base_of (flat mem at 2 0)) (displacement_of (flat mem at 2 0))
 
 -- an operand on its boundary, in a page that has its marks
-unfoldable pub FieldLook : Look → List ℕ → ℕ → Access → (n a : ℕ) → Type 0
-FieldLook (At r k) map size acc n a = (a % n ≡ 0) × Found map size acc a r k
-FieldLook (Refused c b) map size acc n a = Nothing
+unfoldable pub FieldLook : Option Spot → List ℕ → ℕ → Access → (n a : ℕ) → Type 0
+FieldLook found map size acc n a = IfSome found (λ s. (a % n ≡ 0) × Found map size acc a s.at s.reach)
 
 -- what was found lies in memory
-abbrev pub Lies : Look → ℕ → Type 0
-Lies found size = (i k : ℕ) → found ≡ At i k → i + k ≤ size
+abbrev pub Lies : Option Spot → ℕ → Type 0
+Lies found size = IfSome found (λ s. s.at + s.reach ≤ size)
 
 -- a row with one operand in storage: its n bytes were found at i, and what the row changes, registers or memory, is with its code what
 -- `work` makes of i; or nothing is changed
-pub record Worked (found : Look) (n next : ℕ) (work : ℕ → List ℕ × ℕ) (a k : ℕ) (after : List ℕ) : Type 0 where
+pub record Worked (found : Option Spot) (n next : ℕ) (work : ℕ → List ℕ × ℕ) (a k : ℕ) (after : List ℕ) : Type 0 where
   pub i : ℕ
   pub reach : ℕ
-  pub there : found ≡ At i reach
+  pub there : found ≡ Some (spot i reach)
   pub far : n ≤ reach
   pub on : a ≡ next
   pub changed : after ≡ (work i).0
   pub coded : k ≡ (work i).1
 
-unfoldable pub Did : Turn → Here → Look → (n len : ℕ) → (ℕ → List ℕ × ℕ) → (before after : List ℕ) → Type 0
+unfoldable pub Did : Turn → Here → Option Spot → (n len : ℕ) → (ℕ → List ℕ × ℕ) → (before after : List ℕ) → Type 0
 Did (On a k) p found n len work before after = Worked found n (p.at + len) work a k after
 Did (Away q k) p found n len work before after = ⊥
 Did (Undone q k) p found n len work before after = Same p q k × (after ≡ before)
@@ -116,20 +97,19 @@ abbrev pub pairs : PairOp → (h1 : ℕ) → (mem : List ℕ) → (i : ℕ) → 
 pairs op h1 mem i c = into_pair (pair_of op (pair c (left_of h1)) (flat mem i 4 0)) 4 (left_of h1) c
 
 -- a word that was found, and an even register
-unfoldable pub Paired : Look → Here → Look → Type 0
-Paired (At i k) p found = (found ≡ At i k) × ((4 ≤ k) × (left_of p.text % 2 ≡ 0))
-Paired (Refused c b) p found = Nothing
+abbrev pub Paired : Option Spot → Here → Option Spot → Type 0
+Paired place p found = IfSome place (λ s. (found ≡ Some s) × ((4 ≤ s.reach) × (left_of p.text % 2 ≡ 0)))
 
-pub record PairWorked (p : Here) (found : Look) (op : PairOp) (h1 : ℕ) (mem regs regs' : List ℕ) (a k : ℕ) : Type 0 where
+pub record PairWorked (p : Here) (found : Option Spot) (op : PairOp) (h1 : ℕ) (mem regs regs' : List ℕ) (a k : ℕ) : Type 0 where
   pub i : ℕ
   pub reach : ℕ
-  pub there : found ≡ At i reach
+  pub there : found ≡ Some (spot i reach)
   pub far : 4 ≤ reach
   pub even : left_of h1 % 2 ≡ 0
   pub on : a ≡ p.at + 4
   pub comes : done (cpu_of regs' (now_at p.window a k p.mask)) ≡ pairs op h1 mem i (cpu_of regs (now_of p))
 
-unfoldable pub PairDid : Turn → Here → Look → PairOp → ℕ → (mem regs regs' : List ℕ) → Type 0
+unfoldable pub PairDid : Turn → Here → Option Spot → PairOp → ℕ → (mem regs regs' : List ℕ) → Type 0
 PairDid (On a k) p found op h1 mem regs regs' = PairWorked p found op h1 mem regs regs' a k
 PairDid (Away q k) p found op h1 mem regs regs' = ⊥
 PairDid (Undone q k) p found op h1 mem regs regs' = Same p q k × (regs' ≡ regs)

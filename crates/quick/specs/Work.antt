@@ -12,7 +12,7 @@ use Rattle.machine.specs.Rx.{width_of, taken}
 use Rattle.fields.specs.Direct.{flat, flat_put}
 use Rattle.rs_ss.specs.Multiple.{filled_at, spilled_at}
 
-abbrev pub taken_at : Operand → (h1 code : ℕ) → (mem regs : List ℕ) → ℕ → Res
+abbrev pub taken_at : Operand → (h1 code : ℕ) → (mem regs : List ℕ) → ℕ → Res ℕ
 taken_at op h1 code mem regs i = taken op (get_or regs (left_of h1) 0) (flat mem i (bytes_of (width_of op)) 0) code
 
 abbrev pub loads : Operand → (h1 code : ℕ) → (mem regs : List ℕ) → ℕ → List ℕ × ℕ

@@ -8,9 +8,9 @@ ghost use Rattle.fields.specs.Direct.{flat};
 ghost use Rattle.machine.specs.Prog.{done};
 ghost use Rattle.machine.specs.Branches as def;
 ghost use Rattle.machine.specs.Rs as rss;
-ghost use Rattle.quick.specs.Turns.{Placed, Ended, Gone};
+ghost use Rattle.quick.specs.Turns.{Ended, Gone};
 
-use crate::{Here, Turn, Window, places, state};
+use crate::{Here, Turn, Window, places};
 use actions::{branches, registers};
 use rs_ss::rs;
 
@@ -38,7 +38,7 @@ pub fn target(regs: &[u32], h1: u16) -> u32
 
 // BCR BC.
 pub fn condition(regs: &[u32], p: Here, len: u32, to: u32, may: bool) -> Turn
-    requires { Placed p × ((len ≤ 6) × (len % 2 ≡ 0)) }
+    requires { (len ≤ 6) × (len % 2 ≡ 0) }
     ensures { Ended result p (λ c. done (def.branch OnCondition len (left_of p.text) to may c)) regs.now regs.now }
 {
     if may {
@@ -52,10 +52,10 @@ pub fn condition(regs: &[u32], p: Here, len: u32, to: u32, may: bool) -> Turn
 
 // BALR BAL.
 pub fn link(regs: &mut [u32], p: Here, len: u32, to: u32, may: bool) -> Turn
-    requires { Placed p × ((len ≤ 6) × (len % 2 ≡ 0)) }
+    requires { (len ≤ 6) × (len % 2 ≡ 0) }
     ensures { Ended result p (λ c. done (def.branch AndLink len (left_of p.text) to may c)) regs.old regs.new }
 {
-    let word = branches::link_word(regs, state(p), len);
+    let word = branches::link_word(regs, p.state(), len);
     registers::put_reg(regs, (p.text / 16 % 16) as u8, word);
     if may {
         return go(p.window, to, p.code);
@@ -65,7 +65,7 @@ pub fn link(regs: &mut [u32], p: Here, len: u32, to: u32, may: bool) -> Turn
 
 // BCTR BCT.
 pub fn count(regs: &mut [u32], p: Here, len: u32, to: u32, may: bool) -> Turn
-    requires { Placed p × ((len ≤ 6) × (len % 2 ≡ 0)) }
+    requires { (len ≤ 6) × (len % 2 ≡ 0) }
     ensures { Ended result p (λ c. done (def.branch OnCount len (left_of p.text) to may c)) regs.old regs.new }
 {
     let r = (p.text / 16 % 16) as u8;
@@ -82,12 +82,12 @@ pub fn count(regs: &mut [u32], p: Here, len: u32, to: u32, may: bool) -> Turn
 
 // BXH where `high`, else BXLE.
 pub fn index(regs: &mut [u32], mem: &[u8], p: Here, high: bool) -> Turn
-    requires { Placed p × (length regs.old ≡ 16) × (p.at + 4 ≤ length mem.now) }
+    requires { (length regs.old ≡ 16) × (p.at + 4 ≤ length mem.now) }
     ensures { Ended result p (rss.rs (pick high BranchHigh BranchLowEqual) (rs_of p.text (flat mem.now (p.at + 2) 2 0))) regs.old regs.new }
 {
     let to = places::address(regs, mem, 0, p.at + 2);
     let f = decode::split_rs(p.text, fields::flat::half_of(mem, p.at + 2));
-    let c = state(p);
+    let c = p.state();
     let sum = rs::index_sum(regs, c, f);
     let is = rs::is_high(regs, c, f, sum);
     registers::put_reg(regs, f.r1, sum);

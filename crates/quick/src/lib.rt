@@ -12,12 +12,12 @@ pub mod table; // table.rt: the rows, by operation code
 
 ghost use Rattle.std.specs.Prelude.{◌≡◌};
 ghost use Rattle.quick.specs.declared.Turn.TheVariants.{Undone};
-ghost use Rattle.quick.specs.Turns.{counter_at, now_of, Placed};
+ghost use Rattle.quick.specs.Places.{counter_at, Placed};
 
 use actions::Now;
 
 // Where a run fetches from without looking up: a page that has its mark, from its first address on, as far as six bytes still lie in what
-// the look-up reaches, and where it begins in memory. A length of 0 stands for no page.
+// the look-up reaches, and where it begins in memory.
 #[derive(Clone, Copy)]
 pub struct Window {
     pub first: u32,
@@ -43,31 +43,33 @@ pub struct Here {
     pub text: u16,
     pub code: u32,
     pub mask: u32,
+    pub ghost placed: { Placed window at },
 }
 
-// The counter, from the place.
-pub fn counter(p: Here) -> u32
-    requires { Placed p }
-    ensures { result ≡ counter_at p.window p.at }
-{
-    let w = p.window;
-    w.first + (p.at - w.base) as u32
-}
+impl Here {
+    ghost use Rattle.quick.specs.Turns.{now_of};
 
-pub fn state(p: Here) -> Now
-    requires { Placed p }
-    ensures { result ≡ now_of p }
-{
-    Now {
-        pc: counter(p),
-        code: p.code,
-        mask: p.mask,
+    // The counter, from the place.
+    pub fn counter(self) -> u32
+        ensures { result ≡ counter_at self.window self.at }
+    {
+        let w = self.window;
+        w.first + (self.at - w.base) as u32
     }
-}
 
-pub fn undone(p: Here) -> Turn
-    requires { Placed p }
-    ensures { result ≡ Undone (counter_at p.window p.at) p.code }
-{
-    Turn::Undone(counter(p), p.code)
+    pub fn state(self) -> Now
+        ensures { result ≡ now_of self }
+    {
+        Now {
+            pc: self.counter(),
+            code: self.code,
+            mask: self.mask,
+        }
+    }
+
+    pub fn undone(self) -> Turn
+        ensures { result ≡ Undone (counter_at self.window self.at) self.code }
+    {
+        Turn::Undone(self.counter(), self.code)
+    }
 }

@@ -1,13 +1,12 @@
-// Where an operand is: its address, and its look-up in a page that has its marks.
+// Where an operand is: its address, and its look-up in a page that has its marks. (`Sized` stays a premise: arrays in the slices' place would
+// ask more of whom calls the rows.)
 ghost use Rattle.std.specs.Prelude.{◌≡◌, ◌<◌, ◌≤◌, ◌+◌, length};
-ghost use Rattle.pages.specs.declared.Access.TheVariants.{Load, Store};
 ghost use Rattle.actions.specs.declared.Now as scalars;
 ghost use Rattle.actions.specs.Answered.{cpu_of};
 ghost use Rattle.machine.specs.Cpu as def;
 ghost use Rattle.quick.specs.Turns.{address_at, FieldLook, Sized};
 
-use crate::Here;
-use pages::{Access, Cause, Look};
+use pages::{Access, Spot};
 
 // A base or an index: 0 means absent.
 fn part(regs: &[u32], i: u16) -> u32
@@ -17,7 +16,7 @@ fn part(regs: &[u32], i: u16) -> u32
     if i == 0 {
         return 0;
     }
-    regs[i as usize]
+    regs[usize::from(i)]
 }
 
 // The address that the halfword at a place names, with the index register named by the right digit of x. It needs no more of the state
@@ -29,51 +28,26 @@ pub fn address(regs: &[u32], mem: &[u8], x: u16, at: usize) -> u32
     let h = fields::flat::half_of(mem, at);
     let index = part(regs, x % 16);
     let base = part(regs, h / 4096);
-    ((index as u64 + base as u64 + (h % 4096) as u64) % 16777216) as u32
+    ((u64::from(index) + u64::from(base) + u64::from(h % 4096)) % 16777216) as u32
 }
 
-// The look-up of an operand on a boundary of n bytes.
-fn field(map: &[u16], size: usize, access: Access, n: u32, a: u32) -> Look
-    requires { (0 < n) × (length map.now ≡ 512) }
-    ensures { FieldLook result map.now size access n a }
+// The look-up of the operand of an instruction at a place, on a boundary of n bytes; x is its first halfword, or 0 where the format has no
+// index.
+pub fn operand(
+    regs: &[u32],
+    mem: &[u8],
+    map: &[u16],
+    access: Access,
+    x: u16,
+    at: usize,
+    n: u32,
+) -> Option<Spot>
+    requires { (0 < n) × Sized regs.now map.now × (at + 4 ≤ length mem.now) }
+    ensures { (c : scalars.Now) → FieldLook result map.now (length mem.now) access n (address_at regs.now c mem.now x (at + 2)) }
 {
+    let a = address(regs, mem, x, at + 2);
     if a % n != 0 {
-        return Look::Refused(Cause::Addressing, a);
+        return None;
     }
-    lookup::look_marked(map, size, access, a)
-}
-
-// An operand of the RX format, to be read.
-pub fn rx_load(regs: &[u32], mem: &[u8], map: &[u16], p: Here, n: u32) -> Look
-    requires { (0 < n) × Sized regs.now map.now × (p.at + 4 ≤ length mem.now) }
-    ensures { (c : scalars.Now) → FieldLook result map.now (length mem.now) Load n (address_at regs.now c mem.now p.text (p.at + 2)) }
-{
-    let a = address(regs, mem, p.text, p.at + 2);
-    field(map, mem.len(), Access::Load, n, a)
-}
-
-// The same, to be stored.
-pub fn rx_store(regs: &[u32], mem: &[u8], map: &[u16], p: Here, n: u32) -> Look
-    requires { (0 < n) × Sized regs.now map.now × (p.at + 4 ≤ length mem.now) }
-    ensures { (c : scalars.Now) → FieldLook result map.now (length mem.now) Store n (address_at regs.now c mem.now p.text (p.at + 2)) }
-{
-    let a = address(regs, mem, p.text, p.at + 2);
-    field(map, mem.len(), Access::Store, n, a)
-}
-
-// Of the RS and SI formats, which have no index.
-pub fn rs_load(regs: &[u32], mem: &[u8], map: &[u16], p: Here, n: u32) -> Look
-    requires { (0 < n) × Sized regs.now map.now × (p.at + 4 ≤ length mem.now) }
-    ensures { (c : scalars.Now) → FieldLook result map.now (length mem.now) Load n (address_at regs.now c mem.now 0 (p.at + 2)) }
-{
-    let a = address(regs, mem, 0, p.at + 2);
-    field(map, mem.len(), Access::Load, n, a)
-}
-
-pub fn rs_store(regs: &[u32], mem: &[u8], map: &[u16], p: Here, n: u32) -> Look
-    requires { (0 < n) × Sized regs.now map.now × (p.at + 4 ≤ length mem.now) }
-    ensures { (c : scalars.Now) → FieldLook result map.now (length mem.now) Store n (address_at regs.now c mem.now 0 (p.at + 2)) }
-{
-    let a = address(regs, mem, 0, p.at + 2);
-    field(map, mem.len(), Access::Store, n, a)
+    lookup::look_marked(map, mem.len(), access, a)
 }

@@ -1,17 +1,16 @@
 -- A text cut at its marks: from an index on, at the first mark, and how many marks there are.
-use mathlib.Core.Path.{◌≡◌, refl, ◌∙◌}
+use mathlib.Core.Path.{◌≡◌, refl}
 use mathlib.Core.Bool.{Bool, true, false, cond}
 use mathlib.Core.List.{List, [], ◌∷◌}
-use Prim.Native.Nat.{ℕ, suc, ◌+◌, ◌-◌, ◌≤◌, ◌<◌}
+use Prim.Native.Nat.{ℕ, suc, ◌+◌, ◌≤◌, ◌<◌}
 use native.Mathlib.Omega.{arith}
 use lib.Dec.{eqb}
-use lib.ListN.{length, take, drop, drop_of_length-le, length-drop}
-use lib.Seq.{take_all}
-use Rattle.std.specs.List.{position, position_or_len, slice_range}
+use lib.ListN.{length, drop}
+use Rattle.std.specs.List.{position, position_or_len}
 use Rattle.std.specs.Option.{unwrap_or}
 use Rattle.std.proofs.lemmas.List.Recursion.{is_position_or_len}
 use Rattle.words.specs.Pick.{pick}
-use Rattle.reading.specs.Cut.{span, before, after, count}
+use Rattle.reading.specs.Cut.{span, after, count}
 
 -- ---- the first mark
 pub span_within : (mark : ℕ) (bs : List ℕ) → span mark bs ≤ length bs
@@ -36,22 +35,6 @@ find_is mark s n e =
     let f : span mark s ≡ position_or_len (λ b. eqb b mark) s = span_first mark s in
     let h : span mark s ≤ length s = span_within mark s in
     grind arith
-
--- ---- the two sides of a mark, as parts of a slice
-module _ (mark : ℕ) (s : List ℕ) (r : ℕ) (e : r ≡ span mark s) where
-  pub front_is : take r s ≡ before mark s
-  unfolding before
-  front_is = rw e
-
-  pub back_some : (t : List ℕ) → r + 1 ≤ length s → t ≡ slice_range s (r + 1) (length s) → t ≡ after mark s
-  unfolding after
-  back_some t h f = f ∙ take_all (length s - (r + 1)) (drop (r + 1) s) (simp length-drop (omega arith)) ∙ rw e
-
-  pub back_none : length s < r + 1 → [] ≡ after mark s
-  unfolding after
-  back_none h =
-      let k : length s ≤ span mark s + 1 = omega arith in
-      rw (drop_of_length-le s k)
 
 -- ---- marks that are counted
 pub count_none : (mark : ℕ) (bs : List ℕ) → length bs ≤ span mark bs → count mark bs ≡ 0

@@ -2,7 +2,6 @@
 mod Cuts
 mod Numbers
 mod SameText
-mod LineFields
 mod Stores
 mod Ranges
 mod Order

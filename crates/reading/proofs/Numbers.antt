@@ -2,16 +2,16 @@
 use mathlib.Core.Path.{◌≡◌, refl, ◌∙◌}
 use mathlib.Core.Bool.{Bool, true, false, ◌&&◌}
 use mathlib.Core.List.{List, [], ◌∷◌}
-use Prim.Native.Nat.{ℕ, suc, ◌+◌, ◌-◌, ◌*◌, ◌%◌, ◌^◌, ◌≤◌, ◌<◌}
+use Prim.Native.Nat.{ℕ, suc, ◌+◌, ◌*◌, ◌^◌, ◌≤◌, ◌<◌}
 use native.Mathlib.Numerals.{add-one}
 use native.Mathlib.Nat.{mul-le-mul_left, pow-suc, add-zero, zero-add}
 use native.Mathlib.Omega.{arith}
 use lib.Dec.{eqb, leb, ltb}
 use lib.ListN.{length, get_or, drop, drop_of_length-le}
 use lib.Seq.{drop-cons}
-use borrow.Author.Tests.{lt-ltb, le-leb, lt-leb, eq-eqb, ne_eqb, ltb-true, eqb-true, leb-true, leb-false}
+use borrow.Author.Tests.{le-leb, lt-leb, eq-eqb, ltb-true, eqb-true, leb-true, leb-false}
 use Rattle.words.specs.Pick.{pick, both}
-use Rattle.reading.specs.Digits.{digit_of, all_digits, value_after, value_of, no_leading_zero, is_decimal, is_hex, is_bytes}
+use Rattle.reading.specs.Digits.{digit_of, all_digits, value_after, value_of, is_hex}
 use Rattle.std.proofs.Common.{Option, Some, None}
 use Rattle.std.specs.List.{list_all}
 use Rattle.std.specs.Option.{is_some}
@@ -32,41 +32,8 @@ told_value true v n r e f = cc
 told_value false v n r e f = cc
 
 -- ---- a digit
-module _ (b : ℕ) where
-  abbrev pub digit_told : Option ℕ
-  digit_told = pick (ltb (digit_of b) 16) (Some (digit_of b)) None
-
-  some_digit : (d : ℕ) → d ≡ digit_of b → d < 16 → Some d ≡ digit_told
-  some_digit d e h = rw (← e, lt-ltb d 16 h)
-
-  no_digit : 16 ≡ digit_of b → None ≡ digit_told
-  no_digit e = rw (← e)
-
-  pub digit_under : b < 48 → None ≡ digit_told
-  digit_under h =
-      let k : b < 65 = omega arith in
-      no_digit (unfold digit_of in rw (lt-leb 48 b h, lt-leb 65 b k))
-
-  pub digit_nine : 48 ≤ b → b ≤ 57 → (d : ℕ) → d ≡ b - 48 → Some d ≡ digit_told
-  digit_nine h k d e = some_digit d (unfold digit_of in rw (le-leb 48 b h, le-leb b 57 k, e)) (omega arith)
-
-  pub digit_between : 57 < b → b < 65 → None ≡ digit_told
-  digit_between h k =
-      let l : 48 ≤ b = omega arith in
-      no_digit (unfold digit_of in rw (le-leb 48 b l, lt-leb b 57 h, lt-leb 65 b k))
-
-  pub digit_letter : 65 ≤ b → b ≤ 70 → (d : ℕ) → d ≡ b - 65 → Some (d + 10) ≡ digit_told
-  digit_letter h k d e =
-      let l : 48 ≤ b = omega arith in
-      let m : 57 < b = omega arith in
-      some_digit (d + 10) (unfold digit_of in rw (le-leb 48 b l, lt-leb b 57 m, le-leb 65 b h, le-leb b 70 k, e)) (omega arith)
-
-  pub digit_over : 70 < b → None ≡ digit_told
-  digit_over h =
-      let l : 48 ≤ b = omega arith in
-      let m : 57 < b = omega arith in
-      let n : 65 ≤ b = omega arith in
-      no_digit (unfold digit_of in rw (le-leb 48 b l, lt-leb b 57 m, le-leb 65 b n, lt-leb b 70 h))
+abbrev pub digit_told : ℕ → Option ℕ
+digit_told b = pick (ltb (digit_of b) 16) (Some (digit_of b)) None
 
 -- ---- a number up to `last`
 pub value_grows : (base n : ℕ) (bs : List ℕ) → 0 < base → n ≤ value_after base n bs
@@ -104,24 +71,28 @@ module _ (base last n : ℕ) (s : List ℕ) (i : ℕ) where
       abbrev b : ℕ
       b = get_or s i 0
 
-      turned : answer base last 0 s ≡ pick (both (both (ltb (digit_of b) base) (all_digits base (drop (i + 1) s))) (leb (value_after base (n * base + digit_of b) (drop (i + 1) s)) last)) (Some (value_after base (n * base + digit_of b) (drop (i + 1) s))) None
+      abbrev more : List ℕ
+      more = drop (i + 1) s
+
+      -- what the digits from here on come to
+      abbrev value : ℕ
+      value = value_after base (n * base + digit_of b) more
+
+      abbrev told_by : Bool → Option ℕ
+      told_by t = pick (both (both t (all_digits base more)) (leb value last)) (Some value) None
+
+      turned : answer base last 0 s ≡ told_by (ltb (digit_of b) base)
       turned = rw (inv, digits_at base s i h, value_at h)
 
       pub number_none : 0 < base → r ≡ None → None ≡ answer base last 0 s
       number_none z k = rw turned (by (ltb (digit_of b) base) (told_no _ _ r f k))
         where
-          by : (t : Bool) → both t (leb (n * base + digit_of b) last) ≡ false
-              → None ≡ pick (both (both t (all_digits base (drop (i + 1) s))) (leb (value_after base (n * base + digit_of b) (drop (i + 1) s)) last)) (Some (value_after base (n * base + digit_of b) (drop (i + 1) s))) None
+          by : (t : Bool) → both t (leb (n * base + digit_of b) last) ≡ false → None ≡ told_by t
           by true l =
-              let more : n * base + digit_of b ≤ value_after base (n * base + digit_of b) (drop (i + 1) s) = value_grows base (n * base + digit_of b) (drop (i + 1) s) z in
+              let grown : n * base + digit_of b ≤ value = value_grows base (n * base + digit_of b) more z in
               let high : last < n * base + digit_of b = leb-false _ _ l in
-              let over : last < value_after base (n * base + digit_of b) (drop (i + 1) s) = omega arith in
-              pick_false
-              (all_digits base (drop (i + 1) s))
-              (leb (value_after base (n * base + digit_of b) (drop (i + 1) s)) last)
-              (Some (value_after base (n * base + digit_of b) (drop (i + 1) s)))
-              None
-              (lt-leb (value_after base (n * base + digit_of b) (drop (i + 1) s)) last over)
+              let over : last < value = omega arith in
+              pick_false (all_digits base more) (leb value last) (Some value) None (lt-leb value last over)
           by false l = refl
 
       module _ (m : ℕ) (k : r ≡ Some m) where
@@ -140,28 +111,6 @@ module _ (base last n : ℕ) (s : List ℕ) (i : ℕ) where
         number_within =
             let o : n * base + digit_of b ≤ last = leb-true _ _ told.1 in
             omega (arith, sum_is)
-
--- ---- decimal numbers
-module _ (last : ℕ) (s : List ℕ) where
-  abbrev pub decimal_told : Option ℕ
-  decimal_told = pick (is_decimal last s) (Some (value_of 10 s)) None
-
-  pub decimal_empty : length s ≡ 0 → None ≡ decimal_told
-  unfolding is_decimal no_leading_zero
-  decimal_empty e = rw e
-
-  module _ (r : Option ℕ) (t : r ≡ answer 10 last 0 s) where
-    pub decimal_one : length s ≡ 1 → r ≡ decimal_told
-    unfolding is_decimal no_leading_zero
-    decimal_one e = rw e t
-
-    pub decimal_more : (length s ≡ 0 → ⊥) → (length s ≡ 1 → ⊥) → (get_or s 0 0 ≡ 48 → ⊥) → r ≡ decimal_told
-    unfolding is_decimal no_leading_zero
-    decimal_more e f g = rw (ne_eqb _ _ e, ne_eqb _ _ f, ne_eqb _ _ g) t
-
-  pub decimal_zero : (length s ≡ 0 → ⊥) → (length s ≡ 1 → ⊥) → get_or s 0 0 ≡ 48 → None ≡ decimal_told
-  unfolding is_decimal no_leading_zero
-  decimal_zero e f g = rw (ne_eqb _ _ e, ne_eqb _ _ f, eq-eqb _ _ g)
 
 -- ---- hexadecimal numbers
 value_below : (k n : ℕ) (bs : List ℕ) → all_digits 16 bs ≡ true → n < 16 ^ k → value_after 16 n bs < 16 ^ (k + length bs)
@@ -188,10 +137,6 @@ module _ (k : ℕ) (s : List ℕ) where
   abbrev pub hex_told : Option ℕ
   hex_told = pick (is_hex k s) (Some (value_of 16 s)) None
 
-  pub hex_short : (length s ≡ k → ⊥) → None ≡ hex_told
-  unfolding is_hex
-  hex_short e = rw (ne_eqb _ _ e)
-
   pub hex_is : (last : ℕ) (r : Option ℕ) → r ≡ answer 16 last 0 s → length s ≡ k → last + 1 ≡ 16 ^ k → r ≡ hex_told
   unfolding is_hex
   hex_is last r t e f = t ∙ go (all_digits 16 s) refl
@@ -203,6 +148,12 @@ module _ (k : ℕ) (s : List ℕ) where
           let c : value_of 16 s ≤ last = omega arith in
           unfold is_hex in rw (eq-eqb (length s) k e, a, le-leb (value_of 16 s) last c)
       go false a = unfold is_hex in rw (eq-eqb (length s) k e, a)
+
+pub word_fits : (y : List ℕ) (r : Option ℕ) (w : ℕ) → r ≡ hex_told 4 y → r ≡ Some w → w < 65536
+word_fits y r w e f =
+    let below : value_of 16 y < 16 ^ 4 = hex_below 4 y (told_right (is_hex 4 y) (value_of 16 y) w r e f) in
+    let same : value_of 16 y ≡ w = told_value (is_hex 4 y) (value_of 16 y) w r e f in
+    omega arith
 
 -- ---- bytes in hexadecimal
 abbrev pub is_digit : ℕ → Bool
@@ -218,22 +169,3 @@ all_digits_is s =
     by : (t : Bool) (d : ℕ) (u : Bool) → both t u ≡ (is_some (pick t (Some d) None) && u)
     by true d u = refl
     by false d u = refl
-
-module _ (s : List ℕ) where
-  pub bytes_few : length s < 2 → false ≡ is_bytes s
-  unfolding is_bytes
-  bytes_few h = rw (lt-leb 2 (length s) h)
-
-  module _ (h : 2 ≤ length s) where
-    pub bytes_many : 64 < length s → false ≡ is_bytes s
-    unfolding is_bytes
-    bytes_many k = rw (le-leb 2 (length s) h, lt-leb (length s) 64 k)
-
-    module _ (k : length s ≤ 64) where
-      pub bytes_odd : (length s % 2 ≡ 0 → ⊥) → false ≡ is_bytes s
-      unfolding is_bytes
-      bytes_odd e = rw (le-leb 2 (length s) h, le-leb (length s) 64 k, ne_eqb _ _ e)
-
-      pub bytes_all : length s % 2 ≡ 0 → (r : Bool) → r ≡ list_all is_digit s → r ≡ is_bytes s
-      unfolding is_bytes
-      bytes_all e r t = rw (le-leb 2 (length s) h, le-leb (length s) 64 k, eq-eqb _ _ e) (t ∙ all_digits_is s)

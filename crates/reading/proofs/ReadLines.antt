@@ -80,7 +80,14 @@ module _ (whole : Left) (rest : List ℕ) (n : ℕ) (p : Progress) (o : Onto) (i
       ended : span 10 rest < length rest
       ended = omega (arith, long, span_within 10 rest, e)
 
-      step_is : whole ≡ pick (goes_on (line_of text) (state_of p o)) (read_lines (count 10 (after 10 rest)) (n + 1) (after 10 rest) (state_after (line_of text) (state_of p o))) (left_bad n (state_of p o))
+      abbrev here : State
+      here = state_of p o
+
+      abbrev below : List ℕ
+      below = after 10 rest
+
+      step_is : whole
+          ≡ pick (goes_on (line_of text) here) (read_lines (count 10 below) (n + 1) below (state_after (line_of text) here)) (left_bad n here)
       unfolding read_lines
       step_is = rw (inv, count_some 10 rest ended, cut)
 

@@ -11,12 +11,14 @@ pub fn find(s: &[u8], mark: u8) -> usize
 }
 
 // What stands before the first mark, and what stands after it.
+#[tactic(auto, unfolding(crate::specs::Cut::before))]
 pub fn front(s: &[u8], mark: u8) -> &[u8]
     ensures { result.now ≡ before mark s.now }
 {
     &s[..find(s, mark)]
 }
 
+#[tactic(auto, unfolding(crate::specs::Cut::after))]
 pub fn back(s: &[u8], mark: u8) -> &[u8]
     ensures { result.now ≡ after mark s.now }
 {
@@ -24,6 +26,7 @@ pub fn back(s: &[u8], mark: u8) -> &[u8]
 }
 
 // Whether two texts have the same bytes.
+#[tactic(auto, using(crate::proofs::SameText::same_as_eq))]
 pub fn equal(a: &[u8], b: &[u8]) -> bool
     ensures { result ≡ same a.now b.now }
 {

@@ -4,6 +4,7 @@ ghost use Rattle.words.specs.Pick.{pick, both};
 ghost use Rattle.reading.specs.Digits.{digit_of, value_of, is_decimal, is_hex, is_bytes, all_digits};
 
 // What a digit counts, if the byte is one.
+#[tactic(auto, unfolding(crate::specs::Digits::digit_of))]
 pub fn digit(b: u8) -> Option<u32>
     ensures { result ≡ pick (ltb (digit_of b) 16) (Some (digit_of b)) None }
 {
@@ -37,6 +38,7 @@ fn number(s: &[u8], base: u32, last: u32) -> Option<u32>
 }
 
 // A decimal number up to `last`.
+#[tactic(auto, unfolding(crate::specs::Digits::is_decimal, crate::specs::Digits::no_leading_zero))]
 pub fn decimal(s: &[u8], last: u32) -> Option<u32>
     ensures { result ≡ pick (is_decimal last s.now) (Some (value_of 10 s.now)) None }
 {
@@ -47,6 +49,7 @@ pub fn decimal(s: &[u8], last: u32) -> Option<u32>
 }
 
 // A hexadecimal number of k digits, the largest of which is `last`.
+#[tactic(auto, using(crate::proofs::Numbers::hex_is), unfolding(crate::specs::Digits::is_hex))]
 pub fn hex(s: &[u8], k: usize, last: u32) -> Option<u32>
     requires { last + 1 ≡ 16 ^ k }
     ensures { result ≡ pick (is_hex k s.now) (Some (value_of 16 s.now)) None }
@@ -59,6 +62,7 @@ pub fn hex(s: &[u8], k: usize, last: u32) -> Option<u32>
 }
 
 // Whether the text is 1 to 32 bytes in hexadecimal.
+#[tactic(auto, unfolding(crate::specs::Digits::is_bytes))]
 pub fn hex_bytes(s: &[u8]) -> bool
     ensures { result ≡ is_bytes s.now }
 {

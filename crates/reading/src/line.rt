@@ -17,6 +17,7 @@ pub enum Line<'a> {
 }
 
 // The fields behind a line's name, by its kind.
+#[tactic(auto, using(crate::proofs::Numbers::word_fits), unfolding(crate::specs::Line::read_entry))]
 fn page_line(text: &[u8]) -> Option<Line<'_>>
     ensures { Says result (read_page text.now) }
 {
@@ -25,6 +26,7 @@ fn page_line(text: &[u8]) -> Option<Line<'_>>
     Some(Line::Page(n, w as u16))
 }
 
+#[tactic(auto, unfolding(crate::specs::Line::read_bytes, crate::specs::Digits::is_bytes))]
 fn bytes_line(text: &[u8]) -> Option<Line<'_>>
     ensures { Says result (read_bytes text.now) }
 {
@@ -37,6 +39,7 @@ fn bytes_line(text: &[u8]) -> Option<Line<'_>>
     }
 }
 
+#[tactic(auto, unfolding(crate::specs::Line::read_entry))]
 fn reg_line(text: &[u8]) -> Option<Line<'_>>
     ensures { Says result (read_reg text.now) }
 {
@@ -45,6 +48,7 @@ fn reg_line(text: &[u8]) -> Option<Line<'_>>
     Some(Line::Reg(n, v))
 }
 
+#[tactic(auto, unfolding(crate::specs::Line::read_start))]
 fn start_line(text: &[u8]) -> Option<Line<'_>>
     ensures { Says result (read_start text.now) }
 {
@@ -55,6 +59,7 @@ fn start_line(text: &[u8]) -> Option<Line<'_>>
     Some(Line::Start(pc, code, mask))
 }
 
+#[tactic(auto, unfolding(crate::specs::Line::read_run))]
 fn run_line(text: &[u8]) -> Option<Line<'_>>
     ensures { Says result (read_run text.now) }
 {
@@ -63,12 +68,13 @@ fn run_line(text: &[u8]) -> Option<Line<'_>>
 }
 
 // A whole line.
+#[tactic(auto, unfolding(crate::specs::Line::line_of))]
 pub fn read_line(text: &[u8]) -> Option<Line<'_>>
     ensures { Says result (line_of text.now) }
 {
     let name = front(text, b'\t');
     let rest = back(text, b'\t');
-    // No `match` on the name: its last arm is proved once for each letter that can differ, nineteen times here.
+    // A `match` on the name was tried: the proof of its last arm, into which nineteen ways lead, did not close.
     if equal(name, b"PAGE") {
         page_line(rest)
     } else if equal(name, b"BYTES") {

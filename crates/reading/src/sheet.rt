@@ -103,6 +103,7 @@ impl Onto<'_> {
         };
         let mut line = 1;
         let mut rest = sheet;
+        // Not over `split_inclusive`: each piece would have to be asked for its line end all the same.
         while !rest.is_empty() {
             let text = front(rest, b'\n');
             if text.len() == rest.len() {

@@ -6,7 +6,7 @@ ghost use Rattle.reading.specs.Digits.{digit_of, all_digits, pairs_of};
 
 use crate::digits::digit;
 
-// Gives a number, if it is new.
+// Gives a number, if it is new. (No `get_mut`: see `put`.)
 pub fn give(given: &mut [bool], n: u32) -> Option<()>
     ensures { (result ≡ pick (get_or given.old n false) None (Some tt)) × (given.new ≡ pick (get_or given.old n false) given.old (set given.old n true)) }
 {
@@ -42,6 +42,7 @@ pub fn put_bytes(mem: &mut [u8], a: u32, digits: &[u8])
     requires { all_digits 16 digits.now ≡ true }
     ensures { mem.new ≡ sets mem.old a (pairs_of digits.now) }
 {
+    // No `zip` with the places of memory: of what `iter_mut` lends only the length is known afterwards.
     let mut at = a as usize;
     let mut rest = digits;
     while let [x, y, behind @ ..] = rest {

@@ -7,9 +7,7 @@ use lib.ListN.{length}
 use Rattle.pages.specs.declared.Access.{Access}
 use Rattle.pages.specs.declared.Access.TheVariants.{Load, Store}
 use Rattle.pages.specs.declared.Cause.{Cause}
-use Rattle.pages.specs.declared.Look.{Look}
-use Rattle.pages.specs.declared.Look.TheVariants.{At, Refused}
-use Rattle.pages.specs.Look.{look_of}
+use Rattle.pages.specs.Look.{Look, At, Refused, look_of}
 use Rattle.pages.specs.Framed.{framed_of, accessed_at, written_at}
 use Rattle.pages.proofs.ReachLaws.{reach_below, reach_fits}
 use Rattle.fields.specs.declared.Field.{Field}

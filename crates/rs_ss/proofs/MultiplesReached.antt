@@ -8,10 +8,8 @@ use lib.ListN.{length, get_or, set, length-set}
 use Rattle.pages.specs.declared.Access.{Access}
 use Rattle.pages.specs.declared.Access.TheVariants.{Load, Store}
 use Rattle.pages.specs.declared.Cause.{Cause}
-use Rattle.pages.specs.declared.Look.{Look}
-use Rattle.pages.specs.declared.Look.TheVariants.{At, Refused}
 use Rattle.pages.specs.Word.{page_of, written}
-use Rattle.pages.specs.Look.{fewer, look_of}
+use Rattle.pages.specs.Look.{Look, At, Refused, fewer, look_of}
 use Rattle.pages.specs.Framed.{framed_of, written_at}
 use Rattle.pages.proofs.ReachLaws.{reach_behind, reach_below, reach_fits, reach_inside, reach_page}
 use Rattle.pages.proofs.Marks.{written_quiet, look_quiet, written_again}

@@ -5,31 +5,43 @@ ghost use Rattle.machine.specs.Ss.{ss};
 ghost use Rattle.actions.specs.Answered.{told, doing};
 
 use crate::ss;
-use actions::{Now, Out};
+use actions::{Now, Stop, registers};
 use code::{SsAction, SsFields};
 
 // MVC.
-fn move_fields(regs: &[u32], mem: &mut [u8], map: &mut [u16], c: Now, f: SsFields) -> Out
+fn move_fields(
+    regs: &[u32],
+    mem: &mut [u8],
+    map: &mut [u16],
+    c: Now,
+    f: SsFields,
+) -> Result<Now, Stop>
     ensures { told result regs.now c (framed_of mem.new map.new) ≡ doing (ss SsAction.MoveField f) regs.now c (framed_of mem.old map.old) }
 {
-    let n = f.l as u32 + 1;
+    let n = u32::from(f.l) + 1;
     let to = ss::first_address(regs, c, f);
     let from = ss::second_address(regs, c, f);
-    ss::moved(regs, c, fields::each::move_field(mem, map, to, from, n))
+    let pc = registers::ahead_of(regs, c, 6);
+    fields::each::move_field(mem, map, to, from, n)?;
+    Ok(Now { pc, ..c })
 }
 
-// CLC.
-fn compare_fields(regs: &[u32], mem: &[u8], map: &mut [u16], c: Now, f: SsFields) -> Out
+// CLC. (Its own function: a compare is lent memory to read, as its type says.)
+fn compare_fields(
+    regs: &[u32],
+    mem: &[u8],
+    map: &mut [u16],
+    c: Now,
+    f: SsFields,
+) -> Result<Now, Stop>
     ensures { told result regs.now c (framed_of mem.now map.new) ≡ doing (ss SsAction.CompareField f) regs.now c (framed_of mem.now map.old) }
 {
-    let n = f.l as u32 + 1;
+    let n = u32::from(f.l) + 1;
     let first = ss::first_address(regs, c, f);
     let second = ss::second_address(regs, c, f);
-    ss::compared(
-        regs,
-        c,
-        fields::each::compare_field(mem, map, first, second, n),
-    )
+    let pc = registers::ahead_of(regs, c, 6);
+    let code = fields::each::compare_field(mem, map, first, second, n)?;
+    Ok(Now { pc, code, ..c })
 }
 
 pub fn execute(
@@ -39,7 +51,7 @@ pub fn execute(
     c: Now,
     x: SsAction,
     f: SsFields,
-) -> Out
+) -> Result<Now, Stop>
     ensures { told result regs.now c (framed_of mem.new map.new) ≡ doing (ss x f) regs.now c (framed_of mem.old map.old) }
 {
     match x {
@@ -51,8 +63,8 @@ pub fn execute(
 // What the two ways answer.
 #[derive(Clone, Copy)]
 pub struct Ways {
-    pub quick: Out,
-    pub plain: Out,
+    pub quick: Result<Now, Stop>,
+    pub plain: Result<Now, Stop>,
 }
 
 // The theorem, said of the code itself: from the same registers, state and instruction, and from two memories and maps that are alike, the
@@ -73,8 +85,5 @@ pub fn both(
 {
     let quick = ss::execute(regs, mem, map, c, x, f);
     let plain = execute(regs, mem2, map2, c, x, f);
-    Ways {
-        quick: quick,
-        plain: plain,
-    }
+    Ways { quick, plain }
 }

@@ -1,16 +1,18 @@
 // The RS format: registers R1 to R3, and an address.
 ghost use Rattle.std.specs.Prelude.{◌≡◌, ◌≤◌, ◌+◌, ◌*◌, ◌%◌, length};
+ghost use Rattle.words.specs.Pick.{pick};
 ghost use Rattle.pages.specs.declared.Access.TheVariants.{Load, Store};
 ghost use Rattle.pages.specs.Framed.{framed_of};
 ghost use Rattle.machine.specs.Prog.{done};
 ghost use Rattle.machine.specs.Rs.{rs, rs_address, how_many, next_reg, index_sum, is_high};
 ghost use Rattle.fields.specs.Direct.{Clear};
+ghost use Rattle.rs_ss.specs.Logical.{logical_shift, shifted};
 ghost use Rattle.rs_ss.specs.Multiple.{filled, spilled, filled_at, spilled_at};
 ghost use Rattle.actions.specs.Answered.{cpu_of, told, doing, AnswersTo};
 
-use actions::{Now, Out, branches, registers};
+use actions::{Now, Stop, branches, registers};
 use code::{RsAction, RsFields};
-use pages::{Access, Look};
+use pages::Access;
 use words::Direction;
 
 fn operand_address(regs: &[u32], c: Now, f: RsFields) -> u32
@@ -23,25 +25,20 @@ fn operand_address(regs: &[u32], c: Now, f: RsFields) -> u32
 pub fn how_many(f: RsFields) -> u32
     ensures { (result ≡ how_many f) × (result ≤ 16) }
 {
-    let top = f.r3 as u32 + 16;
-    let r1 = f.r1 as u32;
-    if top < r1 {
-        return 1;
-    }
-    (top - r1) % 16 + 1
+    (u32::from(f.r3) + 16).saturating_sub(u32::from(f.r1)) % 16 + 1
 }
 
 fn next_reg(r: u8) -> u8
     ensures { result ≡ next_reg r }
 {
-    ((r as u32 + 1) % 16) as u8
+    ((u32::from(r) + 1) % 16) as u8
 }
 
 // The register so many places on.
 fn reg_past(r: u8, n: u32) -> u8
     ensures { result ≡ (r + n) % 16 }
 {
-    ((r as u64 + n as u64) % 16) as u8
+    ((u64::from(r) + u64::from(n)) % 16) as u8
 }
 
 // By real address, word by word: as many words as a look-up reached.
@@ -51,13 +48,10 @@ pub fn fill_at(regs: &mut [u32], mem: &[u8], count: u32, first: u8, at: usize)
 {
     let mut r = first;
     let mut a = at;
-    let mut left = count;
-    while 0 < left {
-        let v = fields::flat::word_of(mem, a);
-        registers::put_reg(regs, r, v);
+    for _ in 0..count {
+        registers::put_reg(regs, r, fields::flat::word_of(mem, a));
         r = next_reg(r);
-        a = a + 4;
-        left = left - 1;
+        a += 4;
     }
 }
 
@@ -67,13 +61,10 @@ pub fn spill_at(regs: &[u32], mem: &mut [u8], count: u32, first: u8, at: usize)
 {
     let mut r = first;
     let mut a = at;
-    let mut left = count;
-    while 0 < left {
-        let v = registers::reg(regs, r);
-        fields::flat::put_word(mem, a, v);
+    for _ in 0..count {
+        fields::flat::put_word(mem, a, registers::reg(regs, r));
         r = next_reg(r);
-        a = a + 4;
-        left = left - 1;
+        a += 4;
     }
 }
 
@@ -85,16 +76,16 @@ fn fill(regs: &mut [u32], mem: &[u8], map: &[u16], count: u32, first: u8, at: u3
     let mut r = first;
     let mut a = at;
     let mut left = count;
+    // No `for`: a look-up says how many words lie together.
     while 0 < left {
-        let found = lookup::look_up(map, mem.len(), Access::Load, a);
-        let Look::At(i, reach) = found else {
+        let Ok(found) = lookup::look_up(map, mem.len(), Access::Load, a) else {
             return; // never: no byte is refused
         };
-        let n = lookup::fewer_of(left, (reach / 4) as usize);
-        fill_at(regs, mem, n, r, i);
+        let n = lookup::fewer_of(left, (found.reach / 4) as usize);
+        fill_at(regs, mem, n, r, found.at);
         r = reg_past(r, n);
         a = lookup::past_of(a, n * 4);
-        left = left - n;
+        left -= n;
     }
 }
 
@@ -106,102 +97,92 @@ fn spill(regs: &[u32], mem: &mut [u8], map: &mut [u16], count: u32, first: u8, a
     let mut r = first;
     let mut a = at;
     let mut left = count;
+    // No `for`: a look-up says how many words lie together.
     while 0 < left {
-        let found = lookup::look_up(map, mem.len(), Access::Store, a);
-        let Look::At(i, reach) = found else {
+        let Ok(found) = lookup::look_up(map, mem.len(), Access::Store, a) else {
             return; // never: no byte is refused
         };
-        let n = lookup::fewer_of(left, (reach / 4) as usize);
-        spill_at(regs, mem, n, r, i);
+        let n = lookup::fewer_of(left, (found.reach / 4) as usize);
+        spill_at(regs, mem, n, r, found.at);
         lookup::note_written(map, a);
         r = reg_past(r, n);
         a = lookup::past_of(a, n * 4);
-        left = left - n;
+        left -= n;
     }
 }
 
-// LM.
-fn load_multiple(regs: &mut [u32], mem: &[u8], map: &mut [u16], c: Now, f: RsFields) -> Out
+// LM. (Not one function with STM: which of registers and memory may change stands in the types.)
+fn load_multiple(
+    regs: &mut [u32],
+    mem: &[u8],
+    map: &mut [u16],
+    c: Now,
+    f: RsFields,
+) -> Result<Now, Stop>
     ensures { told result regs.new c (framed_of mem.now map.new) ≡ doing (rs RsAction.LoadMultiple f) regs.old c (framed_of mem.now map.old) }
 {
     let at = operand_address(regs, c, f);
     if at % 4 != 0 {
-        return Out::Stop(2, at);
+        return Err(Stop::Boundary(at));
     }
     let count = how_many(f);
-    let found = fields::look_one(map, mem.len(), Access::Load, at, count * 4);
-    let Look::At(i, reach) = found else {
-        return actions::refusal(found);
-    };
+    let found = fields::look_one(map, mem.len(), Access::Load, at, count * 4)?;
     fields::note_field(map, at, count * 4);
     let next = registers::ahead_of(regs, c, 4);
-    if count * 4 <= reach {
-        fill_at(regs, mem, count, f.r1, i);
+    if count * 4 <= found.reach {
+        fill_at(regs, mem, count, f.r1, found.at);
     } else {
         fill(regs, mem, map, count, f.r1, at);
     }
-    Out::Done(Now {
-        pc: next,
-        code: c.code,
-        mask: c.mask,
-    })
+    Ok(Now { pc: next, ..c })
 }
 
 // STM.
-fn store_multiple(regs: &[u32], mem: &mut [u8], map: &mut [u16], c: Now, f: RsFields) -> Out
+fn store_multiple(
+    regs: &[u32],
+    mem: &mut [u8],
+    map: &mut [u16],
+    c: Now,
+    f: RsFields,
+) -> Result<Now, Stop>
     ensures { told result regs.now c (framed_of mem.new map.new) ≡ doing (rs RsAction.StoreMultiple f) regs.now c (framed_of mem.old map.old) }
 {
     let at = operand_address(regs, c, f);
     if at % 4 != 0 {
-        return Out::Stop(2, at);
+        return Err(Stop::Boundary(at));
     }
     let count = how_many(f);
-    let found = fields::look_one(map, mem.len(), Access::Store, at, count * 4);
-    let Look::At(i, reach) = found else {
-        return actions::refusal(found);
-    };
+    let found = fields::look_one(map, mem.len(), Access::Store, at, count * 4)?;
     fields::note_field(map, at, count * 4);
     let next = registers::ahead_of(regs, c, 4);
-    if count * 4 <= reach {
-        spill_at(regs, mem, count, f.r1, i);
+    if count * 4 <= found.reach {
+        spill_at(regs, mem, count, f.r1, found.at);
         lookup::note_written(map, at);
     } else {
         spill(regs, mem, map, count, f.r1, at);
     }
-    Out::Done(Now {
-        pc: next,
-        code: c.code,
-        mask: c.mask,
-    })
+    Ok(Now { pc: next, ..c })
 }
 
-// SLL, and SRL.
-pub fn shift_left(regs: &mut [u32], c: Now, f: RsFields) -> Now
-    ensures { done (cpu_of regs.new result) ≡ rs RsAction.ShiftLeft f (cpu_of regs.old c) }
+// A word shifted, with no sign.
+fn shifted(to: Direction, word: u32, amount: u32) -> u32
+    ensures { result ≡ shifted to word amount }
 {
-    let amount = operand_address(regs, c, f);
-    let v = arithmetic::shift_left(registers::reg(regs, f.r1), amount);
-    let next = registers::ahead_of(regs, c, 4);
-    registers::put_reg(regs, f.r1, v);
-    Now {
-        pc: next,
-        code: c.code,
-        mask: c.mask,
+    match to {
+        Direction::Left => arithmetic::shift_left(word, amount),
+        Direction::Right => arithmetic::shift_right(word, amount),
     }
 }
 
-pub fn shift_right(regs: &mut [u32], c: Now, f: RsFields) -> Now
-    ensures { done (cpu_of regs.new result) ≡ rs RsAction.ShiftRight f (cpu_of regs.old c) }
+// SLL SRL.
+pub fn shift_logical(regs: &mut [u32], c: Now, to: Direction, f: RsFields) -> Now
+    ensures { done (cpu_of regs.new result) ≡ rs (logical_shift to) f (cpu_of regs.old c) }
 {
     let amount = operand_address(regs, c, f);
-    let v = arithmetic::shift_right(registers::reg(regs, f.r1), amount);
+    let v = shifted(to, registers::reg(regs, f.r1), amount);
     let next = registers::ahead_of(regs, c, 4);
     registers::put_reg(regs, f.r1, v);
-    Now {
-        pc: next,
-        code: c.code,
-        mask: c.mask,
-    }
+    Now { pc: next, ..c }
 }
 
 // R1 + R3 in 32 bits.
@@ -210,7 +191,7 @@ pub fn index_sum(regs: &[u32], c: Now, f: RsFields) -> u32
 {
     let a = registers::reg(regs, f.r1);
     let b = registers::reg(regs, f.r3);
-    ((a as u64 + b as u64) % 4294967296) as u32
+    a.wrapping_add(b)
 }
 
 // Whether the sum is above R3 when R3 is odd, else above R3 + 1.
@@ -222,27 +203,16 @@ pub fn is_high(regs: &[u32], c: Now, f: RsFields, sum: u32) -> bool
     arithmetic::high(sum, other)
 }
 
-// BXH, and BXLE.
-fn branch_high(regs: &mut [u32], c: Now, f: RsFields) -> Now
-    ensures { done (cpu_of regs.new result) ≡ rs RsAction.BranchHigh f (cpu_of regs.old c) }
+// BXH where `high`, else BXLE.
+fn branch_index(regs: &mut [u32], c: Now, high: bool, f: RsFields) -> Now
+    ensures { done (cpu_of regs.new result) ≡ rs (pick high RsAction.BranchHigh RsAction.BranchLowEqual) f (cpu_of regs.old c) }
 {
     let to = operand_address(regs, c, f);
     let next = registers::ahead_of(regs, c, 4);
     let sum = index_sum(regs, c, f);
-    let high = is_high(regs, c, f, sum);
+    let is = is_high(regs, c, f, sum);
     registers::put_reg(regs, f.r1, sum);
-    branches::go(regs, c, high, to, next)
-}
-
-fn branch_low_equal(regs: &mut [u32], c: Now, f: RsFields) -> Now
-    ensures { done (cpu_of regs.new result) ≡ rs RsAction.BranchLowEqual f (cpu_of regs.old c) }
-{
-    let to = operand_address(regs, c, f);
-    let next = registers::ahead_of(regs, c, 4);
-    let sum = index_sum(regs, c, f);
-    let high = is_high(regs, c, f, sum);
-    registers::put_reg(regs, f.r1, sum);
-    branches::go(regs, c, !high, to, next)
+    branches::go(regs, c, is == high, to, next)
 }
 
 // SLA SRA.
@@ -252,29 +222,29 @@ pub fn shift_signed(regs: &mut [u32], c: Now, to: Direction, f: RsFields) -> Now
     let amount = operand_address(regs, c, f);
     let result = arithmetic::shifts::word(to, registers::reg(regs, f.r1), amount);
     let next = registers::ahead_of(regs, c, 4);
-    registers::put_reg(regs, f.r1, result.value as u32);
+    registers::put_reg(regs, f.r1, result.value);
     Now {
         pc: next,
         code: result.code,
-        mask: c.mask,
+        ..c
     }
 }
 
 // SLDA SRDA.
-pub fn shift_double(regs: &mut [u32], c: Now, to: Direction, f: RsFields) -> Out
+pub fn shift_double(regs: &mut [u32], c: Now, to: Direction, f: RsFields) -> Result<Now, Stop>
     ensures { AnswersTo result regs.old regs.new (rs (RsAction.ShiftDouble to) f (cpu_of regs.old c)) }
 {
     if f.r1 % 2 != 0 {
-        return Out::Stop(2, c.pc);
+        return Err(Stop::Boundary(c.pc));
     }
     let amount = operand_address(regs, c, f);
     let result = arithmetic::shifts::double(to, registers::pair_of(regs, c, f.r1), amount);
     let next = registers::ahead_of(regs, c, 4);
     registers::put_pair(regs, f.r1, result.value);
-    Out::Done(Now {
+    Ok(Now {
         pc: next,
         code: result.code,
-        mask: c.mask,
+        ..c
     })
 }
 
@@ -285,17 +255,17 @@ pub fn execute(
     c: Now,
     x: RsAction,
     f: RsFields,
-) -> Out
+) -> Result<Now, Stop>
     ensures { told result regs.new c (framed_of mem.new map.new) ≡ doing (rs x f) regs.old c (framed_of mem.old map.old) }
 {
     match x {
         RsAction::LoadMultiple => load_multiple(regs, mem, map, c, f),
         RsAction::StoreMultiple => store_multiple(regs, mem, map, c, f),
-        RsAction::ShiftLeft => Out::Done(shift_left(regs, c, f)),
-        RsAction::ShiftRight => Out::Done(shift_right(regs, c, f)),
-        RsAction::BranchHigh => Out::Done(branch_high(regs, c, f)),
-        RsAction::BranchLowEqual => Out::Done(branch_low_equal(regs, c, f)),
-        RsAction::ShiftSigned(to) => Out::Done(shift_signed(regs, c, to, f)),
+        RsAction::ShiftLeft => Ok(shift_logical(regs, c, Direction::Left, f)),
+        RsAction::ShiftRight => Ok(shift_logical(regs, c, Direction::Right, f)),
+        RsAction::BranchHigh => Ok(branch_index(regs, c, true, f)),
+        RsAction::BranchLowEqual => Ok(branch_index(regs, c, false, f)),
+        RsAction::ShiftSigned(to) => Ok(shift_signed(regs, c, to, f)),
         RsAction::ShiftDouble(to) => shift_double(regs, c, to, f),
     }
 }

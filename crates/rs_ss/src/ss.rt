@@ -4,12 +4,10 @@ ghost use Rattle.std.specs.Prelude.{◌≡◌};
 ghost use Rattle.pages.specs.Framed.{framed_of};
 ghost use Rattle.machine.specs.Ss.{ss, first_address, second_address};
 ghost use Rattle.actions.specs.Answered.{cpu_of, told, doing};
-ghost use Rattle.rs_ss.specs.Ended.{ends_move, ends_compare};
 
-use actions::{Now, Out, registers};
+use actions::{Now, Stop, registers};
 use code::{SsAction, SsFields};
-use fields::Order;
-use pages::{Access, Look};
+use pages::Access;
 
 pub fn first_address(regs: &[u32], c: Now, f: SsFields) -> u32
     ensures { result ≡ first_address f (cpu_of regs.now c) }
@@ -23,104 +21,62 @@ pub fn second_address(regs: &[u32], c: Now, f: SsFields) -> u32
     registers::address_of(regs, c, 0, f.b2, f.d2)
 }
 
-// How a move ends, by what the look-ups said.
-pub fn moved(regs: &[u32], c: Now, found: Look) -> Out
-    ensures { result ≡ ends_move found regs.now c }
-{
-    let Look::At(_, _) = found else {
-        return actions::refusal(found);
-    };
-    Out::Done(Now {
-        pc: registers::ahead_of(regs, c, 6),
-        code: c.code,
-        mask: c.mask,
-    })
-}
-
-// How a compare ends.
-pub fn compared(regs: &[u32], c: Now, order: Order) -> Out
-    ensures { result ≡ ends_compare order regs.now c }
-{
-    match order {
-        Order::Barred(cause, place) => Out::Stop(actions::number_of(cause), place),
-        Order::Code(code) => Out::Done(Now {
-            pc: registers::ahead_of(regs, c, 6),
-            code: code,
-            mask: c.mask,
-        }),
-    }
-}
-
 // MVC. What the look-ups found is handed on over an edge, so that no stretch is asked for twice.
-fn move_fields(regs: &[u32], mem: &mut [u8], map: &mut [u16], c: Now, f: SsFields) -> Out
+fn move_fields(
+    regs: &[u32],
+    mem: &mut [u8],
+    map: &mut [u16],
+    c: Now,
+    f: SsFields,
+) -> Result<Now, Stop>
     ensures { told result regs.now c (framed_of mem.new map.new) ≡ doing (ss SsAction.MoveField f) regs.now c (framed_of mem.old map.old) }
 {
-    let n = f.l as u32 + 1;
+    let n = u32::from(f.l) + 1;
     let to = first_address(regs, c, f);
     let from = second_address(regs, c, f);
-    let there = lookup::look_up(map, mem.len(), Access::Store, to);
-    let Look::At(x, room) = there else {
-        return actions::refusal(there);
+    let pc = registers::ahead_of(regs, c, 6);
+    let there = lookup::look_up(map, mem.len(), Access::Store, to)?;
+    let Ok(here) = lookup::look_up(map, mem.len(), Access::Load, from) else {
+        fields::each::move_field(mem, map, to, from, n)?;
+        return Ok(Now { pc, ..c });
     };
-    let here = lookup::look_up(map, mem.len(), Access::Load, from);
-    let Look::At(y, more) = here else {
-        return moved(regs, c, fields::each::move_field(mem, map, to, from, n));
-    };
-    if n <= room {
-        if n <= more {
-            lookup::note(map, to);
-            lookup::note(map, from);
-            lookup::note_written(map, to);
-            fields::blocks::move_flat(mem, x, y, n);
-            return Out::Done(Now {
-                pc: registers::ahead_of(regs, c, 6),
-                code: c.code,
-                mask: c.mask,
-            });
-        }
+    if n <= there.reach && n <= here.reach {
+        lookup::mark(map, Access::Load, from);
+        lookup::mark(map, Access::Store, to);
+        fields::blocks::move_flat(mem, there.at, here.at, n);
+        return Ok(Now { pc, ..c });
     }
-    moved(
-        regs,
-        c,
-        fields::spans::move_over(mem, map, to, from, n, x, room, y, more),
-    )
+    fields::spans::move_over(mem, map, to, from, n, there, here)?;
+    Ok(Now { pc, ..c })
 }
 
-// CLC: the same.
-fn compare_fields(regs: &[u32], mem: &[u8], map: &mut [u16], c: Now, f: SsFields) -> Out
+// CLC: the same. (Its own function: a compare is lent memory to read, as its type says.)
+fn compare_fields(
+    regs: &[u32],
+    mem: &[u8],
+    map: &mut [u16],
+    c: Now,
+    f: SsFields,
+) -> Result<Now, Stop>
     ensures { told result regs.now c (framed_of mem.now map.new) ≡ doing (ss SsAction.CompareField f) regs.now c (framed_of mem.now map.old) }
 {
-    let n = f.l as u32 + 1;
+    let n = u32::from(f.l) + 1;
     let first = first_address(regs, c, f);
     let second = second_address(regs, c, f);
-    let one = lookup::look_up(map, mem.len(), Access::Load, first);
-    let Look::At(x, room) = one else {
-        return actions::refusal(one);
+    let pc = registers::ahead_of(regs, c, 6);
+    let one = lookup::look_up(map, mem.len(), Access::Load, first)?;
+    let Ok(other) = lookup::look_up(map, mem.len(), Access::Load, second) else {
+        let code = fields::each::compare_field(mem, map, first, second, n)?;
+        return Ok(Now { pc, code, ..c });
     };
-    let other = lookup::look_up(map, mem.len(), Access::Load, second);
-    let Look::At(y, more) = other else {
-        return compared(
-            regs,
-            c,
-            fields::each::compare_field(mem, map, first, second, n),
-        );
-    };
-    if n <= room {
-        if n <= more {
-            lookup::note(map, first);
-            lookup::note(map, second);
-            return Out::Done(Now {
-                pc: registers::ahead_of(regs, c, 6),
-                code: fields::blocks::compare_flat(mem, x, y, n),
-                mask: c.mask,
-            });
-        }
+    if n <= one.reach && n <= other.reach {
+        lookup::mark(map, Access::Load, first);
+        lookup::mark(map, Access::Load, second);
+        let code = fields::blocks::compare_flat(mem, one.at, other.at, n);
+        return Ok(Now { pc, code, ..c });
     }
-    compared(
-        regs,
-        c,
-        fields::spans::compare_over(mem, map, first, second, n, x, room, y, more),
-    )
+    let code = fields::spans::compare_over(mem, map, first, second, n, one, other)?;
+    Ok(Now { pc, code, ..c })
 }
 
 pub fn execute(
@@ -130,7 +86,7 @@ pub fn execute(
     c: Now,
     x: SsAction,
     f: SsFields,
-) -> Out
+) -> Result<Now, Stop>
     ensures { told result regs.now c (framed_of mem.new map.new) ≡ doing (ss x f) regs.now c (framed_of mem.old map.old) }
 {
     match x {

@@ -7,9 +7,8 @@ use lib.ListN.{length}
 use Rattle.words.specs.declared.PairOp.{PairOp}
 use Rattle.words.specs.Wide.{pair_of}
 use Rattle.pages.specs.declared.Access.TheVariants.{Load}
-use Rattle.pages.specs.declared.Cause.{Cause}
-use Rattle.pages.specs.declared.Look.{Look}
-use Rattle.pages.specs.declared.Look.TheVariants.{At, Refused}
+use Rattle.pages.specs.declared.Refusal.{Refusal}
+use Rattle.pages.specs.Look.{Look, At}
 use Rattle.pages.specs.Framed.{Framed, framed_of, accessed_at}
 use Rattle.code.specs.declared.Width.TheVariants.{Word}
 use Rattle.code.specs.declared.RxFields.{RxFields}
@@ -24,9 +23,10 @@ use Rattle.machine.specs.Cpu.{Cpu}
 use Rattle.machine.specs.Pairs.{pair, into_pair}
 use Rattle.machine.specs.Rx.{rx, rx_address}
 use Rattle.actions.specs.declared.Now.{Now}
-use Rattle.actions.specs.declared.Out.{Out}
-use Rattle.actions.specs.declared.Out.TheVariants.{Done, Stop}
-use Rattle.actions.specs.Answered.{cpu_of, told, doing, AnswersTo, refusal_of}
+use Rattle.std.specs.Prelude.{Ok, Err}
+use Rattle.actions.specs.declared.Stop.{Stop}
+use Rattle.actions.specs.declared.Stop.TheVariants.{Boundary}
+use Rattle.actions.specs.Answered.{Out, cpu_of, told, doing, AnswersTo, refusal_of}
 use Rattle.actions.proofs.Executed.{answered, operand_off, operand_stop, operand_go, operand_refused, loaded, loaded_in_vain}
 use Rattle.actions.proofs.OnPairs.{odd_pair, even_pair, stop_answers}
 
@@ -41,11 +41,11 @@ module _ (regs : List ℕ) (c : Now) (mem map : List ℕ) (op : PairOp) (f : RxF
   made v = into_pair (pair_of op (pair (cpu_of regs c) f.r1) v) 4 f.r1 (cpu_of regs c)
 
   pub pair_odd : (f.r1 % 2 ≡ 0 → ⊥)
-      → told (Stop 2 c.pc) regs c (framed_of mem map) ≡ doing (rx (PairAndWord op) f) regs c (framed_of mem map)
+      → told (Err (Boundary c.pc)) regs c (framed_of mem map) ≡ doing (rx (PairAndWord op) f) regs c (framed_of mem map)
   unfolding rx
   pair_odd l =
-      answered regs regs c (Stop 2 c.pc) _ (framed_of mem map)
-      (stop_answers 2 c.pc regs _ (odd_pair f.r1 (cpu_of regs c) _ l))
+      answered regs regs c (Err (Boundary c.pc)) _ (framed_of mem map)
+      (stop_answers (Boundary c.pc) regs _ (odd_pair f.r1 (cpu_of regs c) _ l))
 
   -- R1 is even, and a is the operand's address
   module _ (even : f.r1 % 2 ≡ 0) (a : ℕ) (ea : a ≡ rx_address f (cpu_of regs c)) where
@@ -60,37 +60,36 @@ module _ (regs : List ℕ) (c : Now) (mem map : List ℕ) (op : PairOp) (f : RxF
         ∙ ap (λ (p : Prog Cpu). one (cpu_of regs c) (interp framed p (framed_of mem map) (framed_of mem map)))
         (ap (λ (b : ℕ). loading 4 b made) ea ∙ even_pair f.r1 (cpu_of regs c) _ even)
 
-    pub pair_off : (a % 4 ≡ 0 → ⊥) → told (Stop 2 a) regs c (framed_of mem map) ≡ wanted
+    pub pair_off : (a % 4 ≡ 0 → ⊥) → told (Err (Boundary a)) regs c (framed_of mem map) ≡ wanted
     unfolding loading
     pair_off l = comes _ (operand_off regs c mem map 4 a Load 4 _ l)
 
     module _ (on : a % 4 ≡ 0) (found : Look) (e : found ≡ look_one map (length mem) Load a 4) where
-      pub pair_unfound : (out : Out) (d : Cause) (b : ℕ) → out ≡ refusal_of found → found ≡ Refused d b
-          → told out regs c (framed_of mem map) ≡ wanted
+      pub pair_unfound : (out : Stop) (q : Refusal) → out ≡ refusal_of q → found ≡ Err q
+          → told (Err out) regs c (framed_of mem map) ≡ wanted
       unfolding loading
-      pair_unfound out d b eo ef = comes _ (operand_stop regs c mem map 4 a Load 4 _ tt on found e out d b (omega arith) eo ef)
+      pair_unfound out q eo ef = comes _ (operand_stop regs c mem map 4 a Load 4 _ tt on found e out q (omega arith) eo ef)
 
       -- b is the operand, found at i, and o the answer for it
       module _ (i y : ℕ) (ef : found ≡ At i y) (b : ℕ) (eb : b ≡ flat mem i 4 0) (o : Out) (regs' : List ℕ) (h : AnswersTo o regs regs' (made b)) where
         the_word : (map' : List ℕ) → map' ≡ note_field map a 4 → b ≡ read_field (framed_of mem map') a 4 0
         the_word map' em = eb ∙ found_read mem map Load a 4 i y found e ef (omega arith) (aligned_fits Word a on) map' em
 
-        pub pair_done : (n : Now) (map' : List ℕ) → o ≡ Done n → map' ≡ accessed_at map a
-            → told o regs' c (framed_of mem map') ≡ wanted
+        pub pair_done : (n : Now) (map' : List ℕ) → o ≡ Ok n → map' ≡ accessed_at map a
+            → told (Ok n) regs' c (framed_of mem map') ≡ wanted
         unfolding loading AnswersTo
         pair_done n map' eo ea' =
             let em = found_note mem map Load a 4 i y found e ef (omega arith) (aligned_fits Word a on) map' ea' in
             let k = rw eo at h in
-            rw eo
-            (comes _
+            comes _
             (operand_go regs c mem map 4 a Load 4 _ tt on found e i y map' regs' _ n ef em
-            (loaded regs' n _ _ a 4 made (k ∙ ap made (the_word map' em)))))
+            (loaded regs' n _ _ a 4 made (k ∙ ap made (the_word map' em))))
 
-        pub pair_refused : (p q : ℕ) → o ≡ Stop p q → told o regs' c (framed_of mem map) ≡ wanted
+        pub pair_refused : (p : Stop) → o ≡ Err p → told (Err p) regs' c (framed_of mem map) ≡ wanted
         unfolding loading AnswersTo
-        pair_refused p q eo =
+        pair_refused p eo =
             let k = rw eo at h in
-            rw (eo, k.1)
+            rw (k.1)
             (comes _
-            (operand_refused regs c mem map 4 a Load 4 _ tt on found e i y (note_field map a 4) p q ef refl
-            (loaded_in_vain _ _ a 4 p q made (k.0 ∙ ap made (the_word (note_field map a 4) refl)))))
+            (operand_refused regs c mem map 4 a Load 4 _ tt on found e i y (note_field map a 4) p ef refl
+            (loaded_in_vain _ _ a 4 _ _ made (k.0 ∙ ap made (the_word (note_field map a 4) refl)))))

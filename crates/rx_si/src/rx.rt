@@ -7,9 +7,9 @@ ghost use Rattle.machine.specs.Fields.{bytes_of};
 ghost use Rattle.machine.specs.Rx.{rx, rx_address, width_of, taken};
 ghost use Rattle.actions.specs.Answered.{cpu_of, told, doing};
 
-use actions::{Now, Out, branches, pairs, registers};
+use actions::{Now, Stop, branches, pairs, registers};
 use code::{Branch, Operand, RxAction, RxFields, Width};
-use pages::{Access, Look};
+use pages::Access;
 use words::{PairOp, Res};
 
 fn operand_address(regs: &[u32], c: Now, f: RxFields) -> u32
@@ -29,7 +29,7 @@ fn width_of(op: Operand) -> Width
 }
 
 // The operand at a real address, with register x.
-fn take(mem: &[u8], op: Operand, at: usize, x: u32, code: u32) -> Res
+fn take(mem: &[u8], op: Operand, at: usize, x: u32, code: u32) -> Res<u32>
     requires { at + bytes_of (width_of op) ≤ length mem.now }
     ensures { result ≡ taken op x (flat mem.now at (bytes_of (width_of op)) 0) code }
 {
@@ -42,56 +42,62 @@ fn take(mem: &[u8], op: Operand, at: usize, x: u32, code: u32) -> Res
             code,
         ),
         Operand::ByteInserted => Res {
-            value: x / 256 * 256 + fields::flat::byte_of(mem, at) as u32,
-            code: code,
+            value: x / 256 * 256 + u32::from(fields::flat::byte_of(mem, at)),
+            code,
             over: false,
         },
     }
 }
 
 // L A S C AL SL CL N O X, LH AH SH CH MH, IC.
-fn load(regs: &mut [u32], mem: &[u8], map: &mut [u16], c: Now, op: Operand, f: RxFields) -> Out
+fn load(
+    regs: &mut [u32],
+    mem: &[u8],
+    map: &mut [u16],
+    c: Now,
+    op: Operand,
+    f: RxFields,
+) -> Result<Now, Stop>
     ensures { told result regs.new c (framed_of mem.now map.new) ≡ doing (rx (RxAction.Taking op) f) regs.old c (framed_of mem.now map.old) }
 {
     let at = operand_address(regs, c, f);
     let width = width_of(op);
     if fields::is_off(at, width) {
-        return Out::Stop(2, at);
+        return Err(Stop::Boundary(at));
     }
-    let found = fields::look_operand(map, mem.len(), Access::Load, at, fields::bytes_of(width));
-    let Look::At(i, _) = found else {
-        return actions::refusal(found);
-    };
-    let result = take(mem, op, i, registers::reg(regs, f.r1), c.code);
-    lookup::note(map, at);
+    let found = fields::look_operand(map, mem.len(), Access::Load, at, fields::bytes_of(width))?;
+    let result = take(mem, op, found.at, registers::reg(regs, f.r1), c.code);
+    lookup::mark(map, Access::Load, at);
     let next = registers::ahead_of(regs, c, 4);
     registers::put_reg(regs, f.r1, result.value);
-    Out::Done(Now {
+    Ok(Now {
         pc: next,
         code: result.code,
-        mask: c.mask,
+        ..c
     })
 }
 
-// ST STH STC.
-fn store(regs: &[u32], mem: &mut [u8], map: &mut [u16], c: Now, width: Width, f: RxFields) -> Out
+// ST STH STC. (Not one function with `load`: which of registers and memory may change stands in the types.)
+fn store(
+    regs: &[u32],
+    mem: &mut [u8],
+    map: &mut [u16],
+    c: Now,
+    width: Width,
+    f: RxFields,
+) -> Result<Now, Stop>
     ensures { told result regs.now c (framed_of mem.new map.new) ≡ doing (rx (RxAction.Storing width) f) regs.now c (framed_of mem.old map.old) }
 {
     let at = operand_address(regs, c, f);
     if fields::is_off(at, width) {
-        return Out::Stop(2, at);
+        return Err(Stop::Boundary(at));
     }
-    let found = fields::look_operand(map, mem.len(), Access::Store, at, fields::bytes_of(width));
-    let Look::At(i, _) = found else {
-        return actions::refusal(found);
-    };
-    fields::flat::put_field(mem, i, width, registers::reg(regs, f.r1));
-    lookup::note(map, at);
-    lookup::note_written(map, at);
-    Out::Done(Now {
+    let found = fields::look_operand(map, mem.len(), Access::Store, at, fields::bytes_of(width))?;
+    fields::flat::put_field(mem, found.at, width, registers::reg(regs, f.r1));
+    lookup::mark(map, Access::Store, at);
+    Ok(Now {
         pc: registers::ahead_of(regs, c, 4),
-        code: c.code,
-        mask: c.mask,
+        ..c
     })
 }
 
@@ -102,11 +108,7 @@ pub fn load_address(regs: &mut [u32], c: Now, f: RxFields) -> Now
     let at = operand_address(regs, c, f);
     let next = registers::ahead_of(regs, c, 4);
     registers::put_reg(regs, f.r1, at);
-    Now {
-        pc: next,
-        code: c.code,
-        mask: c.mask,
-    }
+    Now { pc: next, ..c }
 }
 
 // BC BAL BCT.
@@ -118,25 +120,27 @@ fn branch(regs: &mut [u32], c: Now, kind: Branch, f: RxFields) -> Now
 }
 
 // M D. The page gets its mark when there is a quotient.
-fn pair(regs: &mut [u32], mem: &[u8], map: &mut [u16], c: Now, op: PairOp, f: RxFields) -> Out
+fn pair(
+    regs: &mut [u32],
+    mem: &[u8],
+    map: &mut [u16],
+    c: Now,
+    op: PairOp,
+    f: RxFields,
+) -> Result<Now, Stop>
     ensures { told result regs.new c (framed_of mem.now map.new) ≡ doing (rx (RxAction.PairAndWord op) f) regs.old c (framed_of mem.now map.old) }
 {
     if f.r1 % 2 != 0 {
-        return Out::Stop(2, c.pc);
+        return Err(Stop::Boundary(c.pc));
     }
     let at = operand_address(regs, c, f);
     if at % 4 != 0 {
-        return Out::Stop(2, at);
+        return Err(Stop::Boundary(at));
     }
-    let found = fields::look_operand(map, mem.len(), Access::Load, at, 4);
-    let Look::At(i, _) = found else {
-        return actions::refusal(found);
-    };
-    let out = pairs::work(regs, c, op, f.r1, fields::flat::word_of(mem, i), 4);
-    if let Out::Done(_) = out {
-        lookup::note(map, at);
-    }
-    out
+    let found = fields::look_operand(map, mem.len(), Access::Load, at, 4)?;
+    let now = pairs::work(regs, c, op, f.r1, fields::flat::word_of(mem, found.at), 4)?;
+    lookup::mark(map, Access::Load, at);
+    Ok(now)
 }
 
 pub fn execute(
@@ -146,14 +150,14 @@ pub fn execute(
     c: Now,
     x: RxAction,
     f: RxFields,
-) -> Out
+) -> Result<Now, Stop>
     ensures { told result regs.new c (framed_of mem.new map.new) ≡ doing (rx x f) regs.old c (framed_of mem.old map.old) }
 {
     match x {
         RxAction::Taking(op) => load(regs, mem, map, c, op, f),
         RxAction::Storing(width) => store(regs, mem, map, c, width, f),
-        RxAction::LoadAddress => Out::Done(load_address(regs, c, f)),
-        RxAction::AddressBranch(kind) => Out::Done(branch(regs, c, kind, f)),
+        RxAction::LoadAddress => Ok(load_address(regs, c, f)),
+        RxAction::AddressBranch(kind) => Ok(branch(regs, c, kind, f)),
         RxAction::PairAndWord(op) => pair(regs, mem, map, c, op, f),
     }
 }

@@ -1,12 +1,14 @@
 // The SI format: a byte of storage and an immediate byte.
 ghost use Rattle.std.specs.Prelude.{◌≡◌};
+ghost use Rattle.words.specs.Pick.{pick};
+ghost use Rattle.words.specs.Codes.{compare_bits, mask_code};
 ghost use Rattle.pages.specs.Framed.{framed_of};
 ghost use Rattle.machine.specs.Si.{si, si_address};
 ghost use Rattle.actions.specs.Answered.{cpu_of, told, doing};
 
-use actions::{Now, Out, registers};
+use actions::{Now, Stop, registers};
 use code::{SiAction, SiFields};
-use pages::{Access, Look};
+use pages::Access;
 use words::Logic;
 
 fn operand_address(regs: &[u32], c: Now, f: SiFields) -> u32
@@ -15,84 +17,70 @@ fn operand_address(regs: &[u32], c: Now, f: SiFields) -> u32
     registers::address_of(regs, c, 0, f.b1, f.d1)
 }
 
-fn wide(b: u8) -> u32
-    ensures { result ≡ b }
+// The code of a byte, under a mask or compared with another.
+fn code_of(masked: bool, b: u8, i2: u8) -> u32
+    ensures { result ≡ pick masked (mask_code b i2) (compare_bits b i2) }
 {
-    b as u32
+    if masked {
+        return arithmetic::mask_code(b, i2);
+    }
+    arithmetic::compare_bits(u32::from(b), u32::from(i2))
 }
 
-// CLI.
-fn compare(regs: &[u32], mem: &[u8], map: &mut [u16], c: Now, f: SiFields) -> Out
-    ensures { told result regs.now c (framed_of mem.now map.new) ≡ doing (si SiAction.CompareByte f) regs.now c (framed_of mem.now map.old) }
+// TM where `masked`, else CLI.
+fn examine(
+    regs: &[u32],
+    mem: &[u8],
+    map: &mut [u16],
+    c: Now,
+    masked: bool,
+    f: SiFields,
+) -> Result<Now, Stop>
+    ensures { told result regs.now c (framed_of mem.now map.new) ≡ doing (si (pick masked SiAction.TestMask SiAction.CompareByte) f) regs.now c (framed_of mem.now map.old) }
 {
     let at = operand_address(regs, c, f);
-    let found = lookup::look_up(map, mem.len(), Access::Load, at);
-    let Look::At(i, _) = found else {
-        return actions::refusal(found);
-    };
-    let b = fields::flat::byte_of(mem, i);
-    lookup::note(map, at);
-    Out::Done(Now {
-        pc: registers::ahead_of(regs, c, 4),
-        code: arithmetic::compare_bits(wide(b), wide(f.i2)),
-        mask: c.mask,
-    })
-}
-
-// TM.
-fn test(regs: &[u32], mem: &[u8], map: &mut [u16], c: Now, f: SiFields) -> Out
-    ensures { told result regs.now c (framed_of mem.now map.new) ≡ doing (si SiAction.TestMask f) regs.now c (framed_of mem.now map.old) }
-{
-    let at = operand_address(regs, c, f);
-    let found = lookup::look_up(map, mem.len(), Access::Load, at);
-    let Look::At(i, _) = found else {
-        return actions::refusal(found);
-    };
-    let b = fields::flat::byte_of(mem, i);
-    lookup::note(map, at);
-    Out::Done(Now {
-        pc: registers::ahead_of(regs, c, 4),
-        code: arithmetic::mask_code(b, f.i2),
-        mask: c.mask,
-    })
+    let found = lookup::look_up(map, mem.len(), Access::Load, at)?;
+    let b = fields::flat::byte_of(mem, found.at);
+    lookup::mark(map, Access::Load, at);
+    let pc = registers::ahead_of(regs, c, 4);
+    let code = code_of(masked, b, f.i2);
+    Ok(Now { pc, code, ..c })
 }
 
 // NI OI XI.
-fn bits(regs: &[u32], mem: &mut [u8], map: &mut [u16], c: Now, op: Logic, f: SiFields) -> Out
+fn bits(
+    regs: &[u32],
+    mem: &mut [u8],
+    map: &mut [u16],
+    c: Now,
+    op: Logic,
+    f: SiFields,
+) -> Result<Now, Stop>
     ensures { told result regs.now c (framed_of mem.new map.new) ≡ doing (si (SiAction.BitsByte op) f) regs.now c (framed_of mem.old map.old) }
 {
     let at = operand_address(regs, c, f);
-    let found = lookup::look_up(map, mem.len(), Access::Store, at);
-    let Look::At(i, _) = found else {
-        return actions::refusal(found);
-    };
-    let v = arithmetic::logic_byte(op, fields::flat::byte_of(mem, i), f.i2);
-    fields::flat::put_byte(mem, i, v);
-    lookup::note(map, at);
-    lookup::note_written(map, at);
-    Out::Done(Now {
+    let found = lookup::look_up(map, mem.len(), Access::Store, at)?;
+    let v = arithmetic::bits::logic(op, fields::flat::byte_of(mem, found.at), f.i2);
+    fields::flat::put_byte(mem, found.at, v);
+    lookup::mark(map, Access::Store, at);
+    Ok(Now {
         pc: registers::ahead_of(regs, c, 4),
-        code: arithmetic::zero_code(wide(v)),
-        mask: c.mask,
+        code: arithmetic::zero_code(u32::from(v)),
+        ..c
     })
 }
 
-// MVI.
-fn store(regs: &[u32], mem: &mut [u8], map: &mut [u16], c: Now, f: SiFields) -> Out
+// MVI. (Not one function with `bits`, which reads the byte and makes a code of it.)
+fn store(regs: &[u32], mem: &mut [u8], map: &mut [u16], c: Now, f: SiFields) -> Result<Now, Stop>
     ensures { told result regs.now c (framed_of mem.new map.new) ≡ doing (si SiAction.MoveByte f) regs.now c (framed_of mem.old map.old) }
 {
     let at = operand_address(regs, c, f);
-    let found = lookup::look_up(map, mem.len(), Access::Store, at);
-    let Look::At(i, _) = found else {
-        return actions::refusal(found);
-    };
-    fields::flat::put_byte(mem, i, f.i2);
-    lookup::note(map, at);
-    lookup::note_written(map, at);
-    Out::Done(Now {
+    let found = lookup::look_up(map, mem.len(), Access::Store, at)?;
+    fields::flat::put_byte(mem, found.at, f.i2);
+    lookup::mark(map, Access::Store, at);
+    Ok(Now {
         pc: registers::ahead_of(regs, c, 4),
-        code: c.code,
-        mask: c.mask,
+        ..c
     })
 }
 
@@ -103,12 +91,12 @@ pub fn execute(
     c: Now,
     x: SiAction,
     f: SiFields,
-) -> Out
+) -> Result<Now, Stop>
     ensures { told result regs.now c (framed_of mem.new map.new) ≡ doing (si x f) regs.now c (framed_of mem.old map.old) }
 {
     match x {
-        SiAction::CompareByte => compare(regs, mem, map, c, f),
-        SiAction::TestMask => test(regs, mem, map, c, f),
+        SiAction::CompareByte => examine(regs, mem, map, c, false, f),
+        SiAction::TestMask => examine(regs, mem, map, c, true, f),
         SiAction::BitsByte(op) => bits(regs, mem, map, c, op, f),
         SiAction::MoveByte => store(regs, mem, map, c, f),
     }

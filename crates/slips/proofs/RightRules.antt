@@ -10,11 +10,10 @@ use borrow.Author.Tests.{ltb-true}
 use lib.Dec.{leb, ltb}
 use lib.ListN.{length, take, drop, length-append}
 use lib.Seq.{length-take-le}
+use Rattle.std.specs.Prelude.{Option, Some, None}
 use Rattle.words.specs.Pick.{pick}
 use Rattle.code.specs.declared.Action.{Action}
 use Rattle.code.specs.declared.Action.TheVariants.{Rr, Rx, Rs, Si, Ss}
-use Rattle.code.specs.declared.Found.{Found}
-use Rattle.code.specs.declared.Found.TheVariants.{Known, Unknown}
 use Rattle.printing.specs.Digits.{hex_of}
 use Rattle.printing.specs.Lines.{LF}
 use Rattle.lines.specs.Line.{Line, line, text_of, instruction_in, said_of, operands_of, rx_text, ss_text}
@@ -72,6 +71,6 @@ text_right l = ap (λ (said : List ℕ). hex_of 6 l.address ++ said ++ LF) (go (
     operand (Si x) bs = refl
     operand (Ss x) bs = refl
 
-    go : (f : Found) → said_by (operands rx_text rs_all ss_text) f l.bytes ≡ said_of f l.bytes
-    go (Known x) = rw operand
-    go Unknown = refl
+    go : (f : Option Action) → said_by (operands rx_text rs_all ss_text) f l.bytes ≡ said_of f l.bytes
+    go (Some x) = rw operand
+    go None = refl

@@ -1,11 +1,9 @@
 -- Slips in listing code (document 02, E1), each a whole way to answer: in walking the code, in a line's text, and in what is put out.
-use Rattle.std.specs.Prelude.{ℕ, zero, suc, ◌+◌, ◌-◌, ◌/◌, ◌^◌, Bool, List, [], ◌∷◌, ◌++◌, eqb, leb, ltb, length, get_or, take, drop, replicate}
+use Rattle.std.specs.Prelude.{Option, Some, None, ℕ, zero, suc, ◌+◌, ◌-◌, ◌/◌, ◌^◌, Bool, List, [], ◌∷◌, ◌++◌, eqb, leb, ltb, length, get_or, take, drop, replicate}
 use Prim.Native.String.{String}
 use Rattle.words.specs.Pick.{pick, both}
 use Rattle.code.specs.declared.Action.{Action}
 use Rattle.code.specs.declared.Action.TheVariants.{Rr, Rx, Rs, Si, Ss}
-use Rattle.code.specs.declared.Found.{Found}
-use Rattle.code.specs.declared.Found.TheVariants.{Known, Unknown}
 use Rattle.code.specs.declared.RxFields.{RxFields}
 use Rattle.code.specs.declared.RsFields.{RsFields}
 use Rattle.code.specs.declared.SsFields.{SsFields}
@@ -105,33 +103,33 @@ begun_by begun after =
     listed_by (record { shown = size_of; on = size_of; next = wrapped; text = line.text_of; begun = begun; after = after })
 
 -- the walk goes on one byte after an unknown operation
-abbrev one_on : Found → List ℕ → ℕ
-one_on (Known x) code = size_of code
-one_on Unknown code = 1
+abbrev one_on : Option Action → List ℕ → ℕ
+one_on (Some x) code = size_of code
+one_on None code = 1
 
 -- six bytes passed over as four
 abbrev four_on : List ℕ → ℕ
 four_on code = pick (eqb (size_of code) 6) 4 (size_of code)
 
 -- an unknown operation as long as its first two bits would have it
-abbrev by_bits : Found → List ℕ → ℕ
-by_bits (Known x) code = size_of code
-by_bits Unknown code = pick (ltb (get_or code 0 0) 64) 2 (pick (ltb (get_or code 0 0) 192) 4 6)
+abbrev by_bits : Option Action → List ℕ → ℕ
+by_bits (Some x) code = size_of code
+by_bits None code = pick (ltb (get_or code 0 0) 64) 2 (pick (ltb (get_or code 0 0) 192) 4 6)
 
 -- a cut-off instruction takes all that is left
-abbrev all_left : Found → List ℕ → ℕ
-all_left (Known x) code = pick (leb (length_of x) (length code)) (length_of x) (length code)
-all_left Unknown code = size_of code
+abbrev all_left : Option Action → List ℕ → ℕ
+all_left (Some x) code = pick (leb (length_of x) (length code)) (length_of x) (length code)
+all_left None code = size_of code
 
 -- and is read as an instruction, its missing bytes as 0
 abbrev as_whole : line.Line → List ℕ
 as_whole l = hex_of 6 l.address ++ line.said_of (code.action_of (get_or l.bytes 0 0)) l.bytes ++ LF
 
 -- by the operation of the code's first byte; a line and the walk by the same rule
-abbrev by_first : (Found → List ℕ → ℕ) → List ℕ → ℕ
+abbrev by_first : (Option Action → List ℕ → ℕ) → List ℕ → ℕ
 by_first size bs = size (code.action_of (get_or bs 0 0)) bs
 
-abbrev alike : (Found → List ℕ → ℕ) → (line.Line → List ℕ) → Asked → Answer
+abbrev alike : (Option Action → List ℕ → ℕ) → (line.Line → List ℕ) → Asked → Answer
 alike size text = walked (by_first size) (by_first size) text
 
 -- an address past the last, in as many digits as it needs
@@ -147,9 +145,9 @@ operands rx rs ss (Rs x) bs = rs (get_or bs 0 0) (rs_of (line.half_at bs 0) (lin
 operands rx rs ss (Si x) bs = line.operands_of (Si x) bs
 operands rx rs ss (Ss x) bs = ss (ss_of (line.half_at bs 0) (line.half_at bs 2) (line.half_at bs 4))
 
-abbrev pub said_by : (Action → List ℕ → List ℕ) → Found → List ℕ → List ℕ
-said_by said (Known x) bs = field (code.name_of (get_or bs 0 0)) ++ field (said x bs)
-said_by said Unknown bs = line.said_of Unknown bs
+abbrev pub said_by : (Action → List ℕ → List ℕ) → Option Action → List ℕ → List ℕ
+said_by said (Some x) bs = field (code.name_of (get_or bs 0 0)) ++ field (said x bs)
+said_by said None bs = line.said_of None bs
 
 abbrev pub text_by : (Action → List ℕ → List ℕ) → line.Line → List ℕ
 text_by said l = hex_of 6 l.address ++ said_by said (line.instruction_in l.bytes) l.bytes ++ LF

@@ -1,12 +1,12 @@
 -- Slips in the order of tests, in the fetch, and in the instruction code. All but the last are of `engine::step`.
-use Rattle.std.specs.Prelude.{ℕ, ◌-◌, ◌%◌, List, [], ◌∷◌, ◌++◌, eqb, ltb, replicate}
+use Rattle.std.specs.Prelude.{Option, ℕ, ◌-◌, ◌%◌, List, [], ◌∷◌, ◌++◌, eqb, ltb, replicate}
 use Rattle.words.specs.declared.Alu.TheVariants.{Load}
 use Rattle.words.specs.Pick.{pick}
 use Rattle.pages.specs.declared.Access.TheVariants as access
+use Rattle.code.specs.declared.Action.{Action}
 use Rattle.code.specs.declared.Operand.TheVariants.{WordWith}
 use Rattle.code.specs.declared.RxAction.TheVariants.{Taking, LoadAddress}
 use Rattle.code.specs.declared.SsAction.TheVariants.{MoveField}
-use Rattle.code.specs.declared.Found.{Found}
 use Rattle.code.specs.declared.RxFields.{RxFields}
 use Rattle.code.specs.declared.SsFields.{SsFields}
 use Rattle.code.specs.Table.{action_of}
@@ -58,12 +58,12 @@ abbrev third_unseen : ℕ → Cpu → Prog Cpu
 third_unseen h1 c = halfword (ahead c 2) (λ h2. gets (ahead c 4) 2 0 (λ h3. ss MoveField (ss_of h1 h2 h3) c))
 
 -- a step that finds operations in another way
-abbrev step_finding : (ℕ → Found) → Cpu → Prog Cpu
+abbrev step_finding : (ℕ → Option Action) → Cpu → Prog Cpu
 step_finding find c =
     pick (eqb (c.pc % 2) 1) (fail 2 c.pc) (halfword c.pc (λ h1. known (find (op_of h1)) h1 c))
 
 -- SLL and SRL swapped
-abbrev swapped : ℕ → Found
+abbrev swapped : ℕ → Option Action
 swapped k = action_of (pick (eqb k 0x88) 0x89 (pick (eqb k 0x89) 0x88 k))
 
 -- a length of four bits

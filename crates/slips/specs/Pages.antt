@@ -1,16 +1,14 @@
 -- Slips in the look-up of a byte, in its reach, and in the marks: of functions of `pages`.
-use Rattle.std.specs.Prelude.{ℕ, ◌+◌, ◌-◌, ◌*◌, ◌%◌, List, [], ◌∷◌, eqb, leb, ltb, replicate}
+use Rattle.std.specs.Prelude.{ℕ, ◌+◌, ◌-◌, ◌*◌, ◌%◌, List, [], ◌∷◌, eqb, leb, ltb, replicate, Ok, Err}
 use Prim.Native.String.{String}
 use Rattle.std.proofs.lemmas.List.Edits.{sets}
 use Rattle.words.specs.Pick.{pick}
 use Rattle.pages.specs.declared.Access.{Access}
 use Rattle.pages.specs.declared.Access.TheVariants.{Load, Store}
 use Rattle.pages.specs.declared.Cause.TheVariants.{Addressing, PagingError}
-use Rattle.pages.specs.declared.Look.{Look}
-use Rattle.pages.specs.declared.Look.TheVariants.{At, Refused}
 use Rattle.pages.specs.Word.{bit_h, bits_x, frame, page_of, disp_of, next, size, real, word_of, written}
 use Rattle.pages.specs.Tests.{test, six_tests, first_bad, number_of, tests}
-use Rattle.pages.specs.Look.{fewer, reach, test_seven, look_with, look_of}
+use Rattle.pages.specs.Look.{Look, fewer, reach, test_seven, look_with, look_of}
 use Rattle.slips.specs.Row.{Row, row}
 
 -- a look-up in a map and a memory of n bytes
@@ -75,8 +73,8 @@ as_if_loaded map n acc a = look_of map n Load a
 
 -- a look-up's number, its real address and its reach, or the place of its refusal
 abbrev told : Look → List ℕ
-told (At r k) = 0 ∷ r ∷ k ∷ []
-told (Refused c a) = number_of c ∷ a ∷ []
+told (Ok s) = 0 ∷ s.at ∷ s.reach ∷ []
+told (Err e) = number_of e.cause ∷ e.place ∷ []
 
 -- a look-up of address a, with this one page word and a memory of n bytes; a load, in one of 65,536
 abbrev looked_for : Access → ℕ → String → LookUp → ℕ → ℕ → ℕ → ℕ → ℕ → Row
@@ -99,7 +97,7 @@ unwrapped a = a + 1
 
 abbrev pub slips : List Row
 slips =
-    -- lookup::look_up, note_written, next_of
+    -- lookup::look_up, note_written, past_of
     looked "page 10 found as 110" (finding by_ending) 110 0x3003 0xa000 3 0
     ∷ looked "9 bits of the page's number cut to 6" (finding by_six_bits) 10 0x3003 0x4a000 3 0
     ∷ looked "H honoured when M is reset" upper_half 10 0x3203 0xa000 12288 14336

@@ -1,13 +1,11 @@
 -- Slips in MR (1C), M (5C), DR (1D) and D (5D): in their registers, the order of their tests, and number 8. All are of `engine::step`.
-use Rattle.std.specs.Prelude.{ℕ, ◌*◌, ◌/◌, ◌%◌, List, [], ◌∷◌, ◌++◌, eqb}
+use Rattle.std.specs.Prelude.{Ok, Err, ℕ, ◌*◌, ◌/◌, ◌%◌, List, [], ◌∷◌, ◌++◌, eqb}
 use Rattle.words.specs.declared.PairOp.{PairOp}
 use Rattle.words.specs.declared.PairOp.TheVariants.{Multiply, Divide}
-use Rattle.words.specs.declared.Paired.{Paired}
-use Rattle.words.specs.declared.Paired.TheVariants.{Value, DivideError}
 use Rattle.words.specs.Pick.{pick}
 use Rattle.words.specs.Whole.{word_top, signed, kept}
 use Rattle.words.specs.Codes.{sign_code}
-use Rattle.words.specs.Wide.{remainder_of, pair_of}
+use Rattle.words.specs.Wide.{Paired, remainder_of, pair_of}
 use Rattle.pages.specs.declared.Access.TheVariants.{Load}
 use Rattle.code.specs.declared.RrFields.{RrFields}
 use Rattle.code.specs.declared.RrAction.TheVariants.{PairAndRegister}
@@ -60,8 +58,8 @@ pair_below f c = rr (PairAndRegister Multiply) (record { r1 = f.r1 / 2 * 2; r2 =
 
 -- the double word goes where `stored` says, and a divide error is 8 at this place
 abbrev into : (ℕ → Cpu) → ℕ → Paired → Prog Cpu
-into stored place (Value v) = done (stored v)
-into stored place DivideError = fail 8 place
+into stored place (Ok v) = done (stored v)
+into stored place (Err x) = fail 8 place
 
 -- D with its error at the operand
 abbrev at_operand : RxFields → Cpu → Prog Cpu

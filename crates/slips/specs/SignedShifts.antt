@@ -4,7 +4,7 @@ use Prim.Native.String.{String}
 use Rattle.std.specs.Int.Signed.{quot_z}
 use Rattle.words.specs.declared.Direction.{Direction}
 use Rattle.words.specs.declared.Direction.TheVariants.{Left, Right}
-use Rattle.words.specs.declared.Shifted.{Shifted}
+use Rattle.words.specs.declared.Res.{Res}
 use Rattle.words.specs.Pick.{pick}
 use Rattle.words.specs.Whole.{word_top, double_top, signed, kept, overflows}
 use Rattle.words.specs.Codes.{sign_code}
@@ -23,16 +23,16 @@ abbrev moved : ℕ → ℕ → ℤ
 moved a n = signed word_top a *ℤ pos (2 ^ n)
 
 -- SLA that gives this word, and 3 where this test says so
-abbrev sla_by : (ℕ → ℕ → ℕ) → (ℕ → ℕ → Bool) → ℕ → ℕ → Shifted
+abbrev sla_by : (ℕ → ℕ → ℕ) → (ℕ → ℕ → Bool) → ℕ → ℕ → Res ℕ
 sla_by value over a n =
     record { value = value a n; code = pick (over a n) 3 (sign_code (moved a (n % 64))); over = over a n }
 
 -- the low 32 bits, whatever the sign was
-abbrev low_bits : ℕ → ℕ → Shifted
+abbrev low_bits : ℕ → ℕ → Res ℕ
 low_bits = sla_by (λ a n. kept word_top (moved a (n % 64))) (λ a n. overflows word_top (moved a (n % 64)))
 
 -- the right word, but overflow is another
-abbrev overflow_by : (ℕ → ℕ → Bool) → ℕ → ℕ → Shifted
+abbrev overflow_by : (ℕ → ℕ → Bool) → ℕ → ℕ → Res ℕ
 overflow_by = sla_by (λ a n. (shifted_of Left word_top a n).value)
 
 -- the first bit that is lost against the sign, and no other
@@ -44,18 +44,18 @@ abbrev own_bits : ℕ → ℕ → Bool
 own_bits a n = overflows word_top (moved a (pick (ltb (n % 64) 31) (n % 64) 31))
 
 -- an amount of five bits
-abbrev five_bits : ℕ → ℕ → Shifted
+abbrev five_bits : ℕ → ℕ → Res ℕ
 five_bits a n = shifted_of Left word_top a (n % 32)
 
 -- SRA with zeros on the left, and SRA that cuts toward zero
-abbrev zeros_in : ℕ → ℕ → Shifted
+abbrev zeros_in : ℕ → ℕ → Res ℕ
 zeros_in a n = rightward word_top (pos (a / 2 ^ (n % 64)))
 
-abbrev toward_zero : ℕ → ℕ → Shifted
+abbrev toward_zero : ℕ → ℕ → Res ℕ
 toward_zero a n = rightward word_top (quot_z (signed word_top a) (pos (2 ^ (n % 64))))
 
 -- a double shift whose code goes by one of the two words
-abbrev code_by : (ℕ → ℕ) → Direction → ℕ → ℕ → Shifted
+abbrev code_by : (ℕ → ℕ) → Direction → ℕ → ℕ → Res ℕ
 code_by half to a n =
     let r = shifted_of to double_top a n in
     record { value = r.value; code = sign_code (signed word_top (half r.value)); over = r.over }
@@ -67,7 +67,7 @@ abbrev right_half : ℕ → ℕ
 right_half v = v % 4294967296
 
 -- SLDA with a sign in the right word
-abbrev right_sign : ℕ → ℕ → Shifted
+abbrev right_sign : ℕ → ℕ → Res ℕ
 right_sign a n = leftward double_top a (two_signs a *ℤ pos (2 ^ (n % 64)))
 
 -- SRA that leaves the code
@@ -81,10 +81,10 @@ any_register f c =
     done (with_code (with_pair (onward c 4) f.r1 r.value) r.code)
 
 -- value and code of a shift of a by n
-abbrev shifts : String → Direction → ℕ → (ℕ → ℕ → Shifted) → ℕ → ℕ → ℕ → ℕ → Row
+abbrev shifts : String → Direction → ℕ → (ℕ → ℕ → Res ℕ) → ℕ → ℕ → ℕ → ℕ → Row
 shifts slip to top slipped a n one other = row slip (told (shifted_of to top a n)) (told (slipped a n)) one other
   where
-    told : Shifted → List ℕ
+    told : Res ℕ → List ℕ
     told s = s.value ∷ s.code ∷ []
 
 abbrev pub slips : List Row

@@ -1,36 +1,34 @@
 -- Slips in multiply and divide. All rows are of `arithmetic::wide::pair`.
-use Rattle.std.specs.Prelude.{ℕ, ◌-◌, ◌*◌, ◌/◌, ◌%◌, Bool, List, [], ◌∷◌, eqb, leb, ℤ, pos, neg_ℤ, nat_abs, ◌+ℤ◌, ◌-ℤ◌, ◌*ℤ◌}
+use Rattle.std.specs.Prelude.{Ok, Err, ℕ, ◌-◌, ◌*◌, ◌/◌, ◌%◌, Bool, List, [], ◌∷◌, eqb, leb, ℤ, pos, neg_ℤ, nat_abs, ◌+ℤ◌, ◌-ℤ◌, ◌*ℤ◌}
 use Prim.Native.String.{String}
 use Rattle.std.specs.Int.Signed.{lt_z, quot_z, rem_z}
 use Rattle.words.specs.declared.PairOp.{PairOp}
 use Rattle.words.specs.declared.PairOp.TheVariants.{Multiply, Divide}
-use Rattle.words.specs.declared.Paired.{Paired}
-use Rattle.words.specs.declared.Paired.TheVariants.{Value, DivideError}
 use Rattle.words.specs.Pick.{pick, either}
 use Rattle.words.specs.Whole.{word_top, signed, kept, overflows, magnitude}
-use Rattle.words.specs.Wide.{joined, product_of, quotient_of, remainder_of, pair_of}
+use Rattle.words.specs.Wide.{Paired, no_quotient, joined, product_of, quotient_of, remainder_of, pair_of}
 use Rattle.slips.specs.Row.{Row, row}
 
 -- a product as if no word had a sign
 abbrev without_signs : ℕ → ℕ → Paired
-without_signs w b = Value (w % 4294967296 * b)
+without_signs w b = Ok (w % 4294967296 * b)
 
 -- a product whose multiplicand is the left word
 abbrev left_word : ℕ → ℕ → Paired
-left_word w b = Value (product_of (w / 4294967296) b)
+left_word w b = Ok (product_of (w / 4294967296) b)
 
 -- each word in the other's register
 abbrev swapped : PairOp → ℕ → ℕ → Paired
 swapped op w b = turned (pair_of op w b)
   where
     turned : Paired → Paired
-    turned (Value v) = Value (joined (v % 4294967296) (v / 4294967296))
-    turned DivideError = DivideError
+    turned (Ok v) = Ok (joined (v % 4294967296) (v / 4294967296))
+    turned (Err x) = no_quotient
 
 -- a divide by its error, its quotient and its remainder
 abbrev divide_by : (ℕ → ℕ → Bool) → (ℕ → ℕ → ℤ) → (ℕ → ℕ → ℤ) → ℕ → ℕ → Paired
 divide_by error quotient remainder w b =
-    pick (error w b) DivideError (Value (joined (kept word_top (remainder w b)) (kept word_top (quotient w b))))
+    pick (error w b) no_quotient (Ok (joined (kept word_top (remainder w b)) (kept word_top (quotient w b))))
 
 -- the right divide, but the error is another
 abbrev erring : (ℕ → ℕ → Bool) → ℕ → ℕ → Paired
@@ -84,8 +82,8 @@ abbrev pairs : String → PairOp → (ℕ → ℕ → Paired) → ℕ → ℕ �
 pairs slip op slipped w b one other = row slip (told (pair_of op w b)) (told (slipped w b)) one other
   where
     told : Paired → List ℕ
-    told (Value v) = 0 ∷ v / 4294967296 ∷ v % 4294967296 ∷ []
-    told DivideError = 8 ∷ []
+    told (Ok v) = 0 ∷ v / 4294967296 ∷ v % 4294967296 ∷ []
+    told (Err x) = 8 ∷ []
 
 abbrev pub slips : List Row
 slips =

@@ -13,37 +13,37 @@ use Rattle.words.specs.Combine.{result_of, signed_result, carried, combine_of, s
 use Rattle.slips.specs.Row.{Row, row}
 
 -- a logical subtract that adds the complement alone
-abbrev without_one : ℕ → ℕ → Res
+abbrev without_one : ℕ → ℕ → Res ℕ
 without_one a b = carried (a + (4294967295 - b))
 
 -- a signed result whose overflow is told by another test
-abbrev result_by : Bool → ℤ → Res
+abbrev result_by : Bool → ℤ → Res ℕ
 result_by over z = record { value = kept word_top z; code = pick over 3 (sign_code z); over = over }
 
 -- an add whose first value that does not fit is taken for one that does
-abbrev one_late : ℕ → ℕ → Res
+abbrev one_late : ℕ → ℕ → Res ℕ
 one_late a b =
     let z = signed word_top a +ℤ signed word_top b in
     result_by (either (lt_z z (neg_ℤ (pos word_top))) (lt_z (pos word_top) z)) z
 
 -- a subtract by the manual's words (L3701): it overflows where the result's high-order numeric bit and the carry out of the sign disagree
-abbrev garbled : ℕ → ℕ → Res
+abbrev garbled : ℕ → ℕ → Res ℕ
 garbled a b =
     let sum = a + (4294967295 - b) + 1 in
     result_by (not (eqb (sum / 1073741824 % 2) (sum / 4294967296))) (signed word_top a -ℤ signed word_top b)
 
 -- a complement whose code goes by the word that is kept
-abbrev by_sign : ℕ → ℕ → Res
+abbrev by_sign : ℕ → ℕ → Res ℕ
 by_sign a b =
     let v = kept word_top (neg_ℤ (signed word_top b)) in
     result_of v (sign_code (signed word_top v))
 
 -- a logical compare that looks at signs
-abbrev signed_compare : ℕ → ℕ → Res
+abbrev signed_compare : ℕ → ℕ → Res ℕ
 signed_compare a b = result_of a (compare_signed (signed word_top a) (signed word_top b))
 
 -- a product of MH that tells where its low word is not all of it
-abbrev told_product : ℕ → ℕ → Res
+abbrev told_product : ℕ → ℕ → Res ℕ
 told_product a b = signed_result (signed word_top a *ℤ signed word_top b)
 
 -- a shift by the low five bits
@@ -59,10 +59,10 @@ abbrev zeros : ℕ → ℕ
 zeros h = h
 
 -- value and code of `arithmetic::combine` for two operands, the code before being 0; and a number that is made of two
-abbrev results : String → Alu → (ℕ → ℕ → Res) → ℕ → ℕ → ℕ → ℕ → Row
+abbrev results : String → Alu → (ℕ → ℕ → Res ℕ) → ℕ → ℕ → ℕ → ℕ → Row
 results slip op slipped a b one other = row slip (told (combine_of op a b 0)) (told (slipped a b)) one other
   where
-    told : Res → List ℕ
+    told : Res ℕ → List ℕ
     told r = r.value ∷ r.code ∷ []
 
 abbrev numbers : String → (ℕ → ℕ → ℕ) → (ℕ → ℕ → ℕ) → ℕ → ℕ → ℕ → ℕ → Row

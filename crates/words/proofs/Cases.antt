@@ -14,7 +14,7 @@ pub record Case : Type 0 where
   pub given : List ℕ
   pub said : List ℕ
 
-abbrev pub word_and_code : Res → ℕ → ℕ → Case
+abbrev pub word_and_code : Res ℕ → ℕ → ℕ → Case
 word_and_code r value code = record { given = r.value ∷ r.code ∷ []; said = value ∷ code ∷ [] }
 
 abbrev number : ℕ → ℕ → Case

@@ -8,12 +8,11 @@ use borrow.Author.Tests.{ne_eqb, eqb-false}
 use lib.Dec.{eqb}
 use lib.IntN.{nat_abs, ◌+ℤ◌, ◌*ℤ◌}
 use lib.Signed.{quot_z, rem_z}
+use Rattle.std.specs.Prelude.{Ok, Err}
 use Rattle.words.specs.declared.PairOp.TheVariants.{Divide}
-use Rattle.words.specs.declared.Paired.{Paired}
-use Rattle.words.specs.declared.Paired.TheVariants.{Value, DivideError}
 use Rattle.words.specs.Pick.{pick, either}
 use Rattle.words.specs.Whole.{word_top, double_top, signed, kept, overflows}
-use Rattle.words.specs.Wide.{joined, pair_of, quotient_of, remainder_of}
+use Rattle.words.specs.Wide.{joined, Paired, no_quotient, pair_of, quotient_of, remainder_of}
 use Rattle.words.proofs.Range.{fits, mag_small, signed_low, signed_size, nonzero}
 use Rattle.words.proofs.ReadBack.{signed_kept, kept_signed, kept_below, fits_signed}
 use Rattle.words.proofs.Division.{SameSign, dividend, smaller, same_sign, only}
@@ -25,7 +24,7 @@ pub record Divides (w b q r : ℕ) : Type 0 where
   pub sign : SameSign (signed word_top r) (signed double_top w)
 
 -- Divide gives a value where neither test stops it
-value_when : (s t : Bool) (p : Paired) (v : ℕ) → pick (either s t) DivideError p ≡ Value v → (s ≡ false) × (t ≡ false) × (p ≡ Value v)
+value_when : (s t : Bool) (p : Paired) (v : ℕ) → pick (either s t) no_quotient p ≡ Ok v → (s ≡ false) × (t ≡ false) × (p ≡ Ok v)
 value_when true t p v e = (cc, cc, cc)
 value_when false true p v e = (refl, cc, cc)
 value_when false false p v e = (refl, refl, e)
@@ -56,13 +55,13 @@ halves : (v left right : ℕ) → joined left right ≡ v → left < 4294967296 
 halves v left right e l r = omega arith
 
 -- what Divide leaves divides: the quotient is the right word, the remainder the left
-pub divided : (w b v : ℕ) → b < 4294967296 → pair_of Divide w b ≡ Value v
+pub divided : (w b v : ℕ) → b < 4294967296 → pair_of Divide w b ≡ Ok v
     → (v < 18446744073709551616) × Divides w b (v % 4294967296) (v / 4294967296)
 unfolding pair_of
 divided w b v l e =
     let q = kept word_top (quotient_of w b) in
     let r = kept word_top (remainder_of w b) in
-    let (z, f, s) = value_when (eqb b 0) (overflows word_top (quotient_of w b)) (Value (joined r q)) v e in
+    let (z, f, s) = value_when (eqb b 0) (overflows word_top (quotient_of w b)) (Ok (joined r q)) v e in
     let j : joined r q ≡ v = cc in
     let m = kept_below word_top (remainder_of w b) (omega arith) in
     let n = kept_below word_top (quotient_of w b) (omega arith) in
@@ -72,7 +71,7 @@ divided w b v l e =
     (k, rw (right, left) (words_divide w b l (nonzero word_top b l p) f))
 
 -- where two words divide, Divide leaves those
-pub divides_exactly : (w b q r : ℕ) → q < 4294967296 → r < 4294967296 → Divides w b q r → pair_of Divide w b ≡ Value (joined r q)
+pub divides_exactly : (w b q r : ℕ) → q < 4294967296 → r < 4294967296 → Divides w b q r → pair_of Divide w b ≡ Ok (joined r q)
 unfolding pair_of quotient_of remainder_of
 divides_exactly w b q r m n d =
     let (u, v) = only (signed double_top w) (signed word_top q) (signed word_top b) (signed word_top r) d.dividend d.smaller d.sign in
@@ -85,18 +84,18 @@ divides_exactly w b q r m n d =
 
 -- so number 8 comes exactly where no two words divide
 pub error_exactly : (w b : ℕ) → b < 4294967296
-    → (pair_of Divide w b ≡ DivideError) ↔ ((q r : ℕ) → q < 4294967296 → r < 4294967296 → Divides w b q r → ⊥)
+    → (pair_of Divide w b ≡ no_quotient) ↔ ((q r : ℕ) → q < 4294967296 → r < 4294967296 → Divides w b q r → ⊥)
 error_exactly w b l = (never, λ n. otherwise n (pair_of Divide w b) refl)
   where
-    never : pair_of Divide w b ≡ DivideError → (q r : ℕ) → q < 4294967296 → r < 4294967296 → Divides w b q r → ⊥
+    never : pair_of Divide w b ≡ no_quotient → (q r : ℕ) → q < 4294967296 → r < 4294967296 → Divides w b q r → ⊥
     never e q r m n d =
         let f = divides_exactly w b q r m n d in
         let z : ◌≡◌ {A = ℕ} 0 1 = cc in
         omega arith
 
     otherwise : ((q r : ℕ) → q < 4294967296 → r < 4294967296 → Divides w b q r → ⊥) → (p : Paired) → pair_of Divide w b ≡ p
-        → pair_of Divide w b ≡ DivideError
-    otherwise n (Value v) e =
+        → pair_of Divide w b ≡ no_quotient
+    otherwise n (Ok v) e =
         let (k, d) = divided w b v l e in
         absurd (n (v % 4294967296) (v / 4294967296) (omega arith) (omega arith) d)
-    otherwise n DivideError e = e
+    otherwise n (Err x) e = e

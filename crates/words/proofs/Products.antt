@@ -4,9 +4,9 @@ use Prim.Native.Nat.{ℕ, ◌*◌, ◌%◌, ◌≤◌, ◌<◌}
 use native.Mathlib.Nat.{mul-le-mul}
 use native.Mathlib.Omega.{arith}
 use lib.IntN.{ℤ, pos, negsuc, nat_abs, ◌*ℤ◌}
+use Rattle.std.specs.Prelude.{Ok}
 use Rattle.words.specs.declared.Alu.TheVariants.{LowProduct}
 use Rattle.words.specs.declared.PairOp.TheVariants.{Multiply}
-use Rattle.words.specs.declared.Paired.TheVariants.{Value}
 use Rattle.words.specs.Whole.{word_top, double_top, signed, kept}
 use Rattle.words.specs.Combine.{combine_of}
 use Rattle.words.specs.Wide.{pair_of, product_of}
@@ -30,7 +30,7 @@ unfolding product_of
 product_below a b = kept_below double_top (signed word_top a *ℤ signed word_top b) (omega arith)
 
 -- Multiply leaves the product of the pair's right word, whatever the left one is
-pub multiplied : (w b v : ℕ) → b < 4294967296 → pair_of Multiply w b ≡ Value v
+pub multiplied : (w b v : ℕ) → b < 4294967296 → pair_of Multiply w b ≡ Ok v
     → (v < 18446744073709551616) × (signed double_top v ≡ signed word_top (w % 4294967296) *ℤ signed word_top b)
 unfolding pair_of
 multiplied w b v l e =

@@ -4,20 +4,19 @@ use mathlib.Core.List.{List, [], ◌∷◌, map}
 use Prim.Native.Nat.{ℕ}
 use Rattle.words.specs.declared.Alu.TheVariants.{LowProduct}
 use Rattle.words.specs.declared.PairOp.TheVariants.{Multiply, Divide}
-use Rattle.words.specs.declared.Paired.{Paired}
 use Rattle.words.specs.declared.Direction.TheVariants.{Left, Right}
-use Rattle.words.specs.declared.Shifted.{Shifted}
+use Rattle.words.specs.declared.Res.{Res}
 use Rattle.words.specs.Whole.{word_top, double_top, signed, kept, overflows}
 use Rattle.words.specs.Codes.{sign_code}
 use Rattle.words.specs.Combine.{combine_of}
-use Rattle.words.specs.Wide.{pair_of, paired_says, product_of, quotient_of, remainder_of}
+use Rattle.words.specs.Wide.{Paired, pair_of, paired_says, product_of, quotient_of, remainder_of}
 use Rattle.words.specs.SignedShifts.{sign_bit, leftward, rightward, shifted_of}
 use Rattle.words.proofs.Cases.{Case, word_and_code}
 
 abbrev answers : Paired → ℕ → List ℕ → Case
 answers p number values = record { given = (paired_says p).number ∷ (paired_says p).values; said = number ∷ values }
 
-abbrev shifts : Shifted → ℕ → ℕ → Case
+abbrev shifts : Res ℕ → ℕ → ℕ → Case
 shifts s value code = record { given = s.value ∷ s.code ∷ []; said = value ∷ code ∷ [] }
 
 table : List Case

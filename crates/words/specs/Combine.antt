@@ -12,16 +12,16 @@ use Rattle.words.specs.Whole.{word_top, signed, kept, overflows, magnitude}
 use Rattle.words.specs.Codes.{sign_code, compare_signed, compare_bits, zero_code}
 
 -- a word with a code, nothing overflowed
-abbrev pub result_of : ℕ → ℕ → Res
+abbrev pub result_of : ℕ → ℕ → Res ℕ
 result_of v code = record { value = v; code = code; over = false }
 
 -- a signed result: its low 32 bits; 3 on overflow, else by its sign (001, L3338-3355)
-unfoldable pub signed_result : ℤ → Res
+unfoldable pub signed_result : ℤ → Res ℕ
 signed_result z =
     record { value = kept word_top z; code = pick (overflows word_top z) 3 (sign_code z); over = overflows word_top z }
 
 -- a logical sum s: its low 32 bits; 0 zero and 1 nonzero without carry, 2 zero and 3 nonzero with (001, L3635-3667)
-unfoldable pub carried : ℕ → Res
+unfoldable pub carried : ℕ → Res ℕ
 carried s = result_of (s % 4294967296) (pick (ltb s 4294967296) 0 2 + zero_code (s % 4294967296))
 
 -- bit by bit
@@ -30,7 +30,7 @@ logic_of And a b = bit_and a b
 logic_of Or a b = bit_or a b
 logic_of Xor a b = bit_xor a b
 
-unfoldable pub combine_of : Alu → ℕ → ℕ → ℕ → Res
+unfoldable pub combine_of : Alu → ℕ → ℕ → ℕ → Res ℕ
 -- LR, L: L3366. LH: L3398. The code stays
 combine_of Load a b cc = result_of b cc
 -- LTR: L3425

@@ -1,11 +1,10 @@
 -- Multiply and divide: whole numbers that need a pair of registers. A double word of 64 bits is two words, the left one in the even
 -- register; its only sign bit is the leftmost (001, L3272).
-use Rattle.std.specs.Prelude.{List, [], ◌∷◌, ℕ, ◌+◌, ◌*◌, ◌%◌, eqb, ℤ, ◌*ℤ◌}
+use Rattle.std.specs.Prelude.{Result, Ok, Err, List, [], ◌∷◌, ℕ, ◌+◌, ◌*◌, ◌%◌, eqb, ℤ, ◌*ℤ◌}
 use Rattle.std.specs.Int.Signed.{quot_z, rem_z}
 use Rattle.words.specs.declared.PairOp.{PairOp}
 use Rattle.words.specs.declared.PairOp.TheVariants.{Multiply, Divide}
-use Rattle.words.specs.declared.Paired.{Paired}
-use Rattle.words.specs.declared.Paired.TheVariants.{Value, DivideError}
+use Rattle.words.specs.declared.DivideError.{DivideError}
 use Rattle.words.specs.Pick.{pick, either}
 use Rattle.words.specs.Said.{Said, says}
 use Rattle.words.specs.Whole.{word_top, double_top, signed, kept, overflows}
@@ -26,17 +25,24 @@ quotient_of w b = quot_z (signed double_top w) (signed word_top b)
 unfoldable pub remainder_of : ℕ → ℕ → ℤ
 remainder_of w b = rem_z (signed double_top w) (signed word_top b)
 
+-- the answer: the double word for the pair, or that no quotient fits
+abbrev pub Paired : Type 0
+Paired = Result ℕ DivideError
+
+abbrev pub no_quotient : Paired
+no_quotient = Err (record {})
+
 -- what is made of the pair's double word w and the second operand b
 unfoldable pub pair_of : PairOp → ℕ → ℕ → Paired
 -- MR, M: L3837. The multiplicand is the right word; the left one is not looked at
-pair_of Multiply w b = Value (product_of (w % 4294967296) b)
+pair_of Multiply w b = Ok (product_of (w % 4294967296) b)
 -- DR, D: L3901. The remainder goes to the left, the quotient to the right. An error where the divisor is zero (L1084) or no word stands
 -- for the quotient
 pair_of Divide w b =
-    pick (either (eqb b 0) (overflows word_top (quotient_of w b))) DivideError
-    (Value (joined (kept word_top (remainder_of w b)) (kept word_top (quotient_of w b))))
+    pick (either (eqb b 0) (overflows word_top (quotient_of w b))) no_quotient
+    (Ok (joined (kept word_top (remainder_of w b)) (kept word_top (quotient_of w b))))
 
--- the enum's cases in the papers' terms: the double word, or document 02's number 8
+-- the answer's cases in the papers' terms: the double word, or document 02's number 8
 abbrev pub paired_says : Paired → Said (List ℕ)
-paired_says (Value v) = says 0 (v ∷ [])
-paired_says DivideError = says 8 []
+paired_says (Ok v) = says 0 (v ∷ [])
+paired_says (Err e) = says 8 []

@@ -28,10 +28,11 @@ pub enum Alu {
     LowProduct,
 }
 
-// A word, the condition code, and whether a signed result overflowed; not of eight bytes, as actions::Now is not.
+// A word or a double word, the condition code, and whether the true value did not fit: a flag, as the
+// definitions have it (`signed_result`, `shifted_of`). With a word it has twelve bytes: not eight, as actions::Now has not.
 #[derive(Clone, Copy)]
-pub struct Res {
-    pub value: u32,
+pub struct Res<T> {
+    pub value: T,
     pub code: u32,
     pub over: bool,
 }
@@ -43,24 +44,13 @@ pub enum PairOp {
     Divide,
 }
 
-// The double word for the pair, or no quotient that fits.
-#[derive(Clone, Copy)]
-pub enum Paired {
-    Value(u64),
-    DivideError,
-}
+// Of a division: no quotient that fits.
+#[derive(Clone, Copy, Debug, PartialEq, Eq)]
+pub struct DivideError;
 
 // Where a shift goes.
 #[derive(Clone, Copy)]
 pub enum Direction {
     Left,
     Right,
-}
-
-// A word or a double word, the condition code, and whether the true value did not fit.
-#[derive(Clone, Copy)]
-pub struct Shifted {
-    pub value: u64,
-    pub code: u32,
-    pub over: bool,
 }

@@ -1,15 +1,11 @@
-use Rattle.words.specs.Codes.{compare_bits}
-use Rattle.words.proofs.Choice.{tests}
+use Rattle.arithmetic.proofs.ByCases.{compared}
 use Rattle.arithmetic.proofs.compare_bits.Goals as goal
 
-pub returns-then-a-b : goal.returns-then-a-b
-unfolding compare_bits
-returns-then-a-b c = search tests
+pub returns-in-Less : goal.returns-in-Less
+returns-in-Less c = compared _ _ _ c.in-Less.ensures
 
-pub returns-then-b-a : goal.returns-then-b-a
-unfolding compare_bits
-returns-then-b-a c = search tests
+pub returns-in-Equal : goal.returns-in-Equal
+returns-in-Equal c = compared _ _ _ c.in-Equal.ensures
 
-pub returns-else-b-a : goal.returns-else-b-a
-unfolding compare_bits
-returns-else-b-a c = search tests
+pub returns-in-Greater : goal.returns-in-Greater
+returns-in-Greater c = compared _ _ _ c.in-Greater.ensures

@@ -14,7 +14,7 @@ pub loop-left-smaller : goal.loop-left-smaller
 loop-left-smaller c = piece_less _ _ _ c.fewer_of-step.ensures c.loop-left-test.true (page_some _ _ c.in_page.ensures)
 
 pub loop-left-preserved : goal.loop-left-preserved
-loop-left-preserved c = (rw c.past_of-to.ensures (c.loop-left.invariant.0 ∙ note_on _ _ _ _ _ (piece_some _ _ _ c.fewer_of-step.ensures c.loop-left-test.true (page_some _ _ c.in_page.ensures)) (piece_within _ _ _ c.fewer_of-step.ensures) (rw (← c.in_page.ensures) (piece_reached _ _ _ c.fewer_of-step.ensures)) c.note.ensures), c.note.auto.map ∙ c.loop-left.invariant.1)
+loop-left-preserved c = (rw c.past_of-to.ensures (c.loop-left.invariant.0 ∙ note_on _ _ _ _ _ (piece_some _ _ _ c.fewer_of-step.ensures c.loop-left-test.true (page_some _ _ c.in_page.ensures)) (piece_within _ _ _ c.fewer_of-step.ensures) (rw (← c.in_page.ensures) (piece_reached _ _ _ c.fewer_of-step.ensures)) c.mark.ensures), c.mark.auto.map ∙ c.loop-left.invariant.1)
 
 pub shape_of-map : goal.shape_of-map
 shape_of-map c = c.loop-left.invariant.1

@@ -6,10 +6,10 @@ pub returns-then-w-eq0 : goal.returns-then-w-eq0
 unfolding bit_g
 returns-then-w-eq0 c = no_mark _ _ c.if-w-eq0.true
 
-pub returns-then-is_store : goal.returns-then-is_store
+pub returns-else-not-is_store : goal.returns-else-not-is_store
 unfolding bit_g
-returns-then-is_store c = store_mark _ _ c.if-w-eq0.false _ c.is_store.ensures c.if-is_store.true
+returns-else-not-is_store c = store_mark _ _ c.if-w-eq0.false _ c.is_store.ensures c.if-not-is_store.false
 
-pub returns : goal.returns
+pub returns-then-not-is_store : goal.returns-then-not-is_store
 unfolding bit_g
-returns c = load_mark _ _ c.if-w-eq0.false _ c.is_store.ensures c.if-is_store.false
+returns-then-not-is_store c = rw c.if-not-is_store.true (load_mark _ _ c.if-w-eq0.false _ c.is_store.ensures c.if-not-is_store.true)

@@ -2,17 +2,8 @@ use Prim.Native.Nat.{◌/◌}
 use mathlib.Core.Path.{refl}
 use native.Mathlib.Omega.{arith}
 use Rattle.pages.specs.Word.{word_of, page_of}
-use Rattle.lookup.specs.Marked.{MarkedLook}
 use Rattle.lookup.proofs.HasMarks.{marked_whole}
 use Rattle.lookup.proofs.look_marked.Goals as goal
-
-pub returns-then-a-ge2097152 : goal.returns-then-a-ge2097152
-unfolding MarkedLook
-returns-then-a-ge2097152 c = record {}
-
-pub returns-then-not-is_marked : goal.returns-then-not-is_marked
-unfolding MarkedLook
-returns-then-not-is_marked c = record {}
 
 pub returns : goal.returns
 unfolding word_of page_of

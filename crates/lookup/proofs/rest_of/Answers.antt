@@ -5,7 +5,7 @@ use Rattle.lookup.proofs.rest_of.Goals as goal
 
 pub returns-then-w-eq0 : goal.returns-then-w-eq0
 unfolding bit_m frame disp_of
-returns-then-w-eq0 c = let t = rest_large _ _ c.if-w-eq0.true in (t.0, t.1, omega arith)
+returns-then-w-eq0 c = let t = rest_large _ _ c.if-w-eq0.true in (rw c.from.ensures t.0, t.1, rw c.from.ensures (omega arith))
 
 pub returns-then-d-ge2048 : goal.returns-then-d-ge2048
 unfolding bit_m disp_of

@@ -5,8 +5,8 @@ use Rattle.lookup.proofs.write_byte.Goals as goal
 pub returns-in_default : goal.returns-in_default
 returns-in_default c = search write_refused
 
-pub bounds-mem-r : goal.bounds-mem-r
-bounds-mem-r c = found_less _ _ _ _ _ _ _ c.look_up-found.ensures c.in-At.is
+pub bounds-mem-spot : goal.bounds-mem-spot
+bounds-mem-spot c = found_less _ _ _ _ _ _ _ c.look_up.ensures c.in-Ok.is
 
-pub returns : goal.returns
-returns c = search write_found
+pub returns-in-Ok : goal.returns-in-Ok
+returns-in-Ok c = search write_found

@@ -1,10 +1,11 @@
 use Rattle.machine.specs.Branches.{branch}
 use Rattle.actions.proofs.branches.on_condition.Goals as goal
-
-pub returns-then-may : goal.returns-then-may
-unfolding branch
-returns-then-may c = rw (c.if-may.true, ← c.is_chosen.ensures, ← c.ahead_of-next.ensures) c.go.ensures
+use Rattle.actions.proofs.branches.on_condition.Goals.{then-may, else-may}
 
 pub returns : goal.returns
 unfolding branch
-returns c = rw (c.if-may.false, ← c.ahead_of-next.ensures) c.go-2.ensures
+returns c =
+    elim c.if-may.branch [
+      | then-may w ↦ rw (w.if-may.true, ← w.is_chosen.ensures, ← c.ahead_of-next.ensures) (rw w.go-is at c.go.ensures)
+      | else-may w ↦ rw (w.if-may.false, ← c.ahead_of-next.ensures) (rw (w.go-is, w.if-may.false) at c.go.ensures)
+    ]

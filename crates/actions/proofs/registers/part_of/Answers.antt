@@ -6,6 +6,6 @@ pub returns-then-i-eq0 : goal.returns-then-i-eq0
 unfolding part reg
 returns-then-i-eq0 c = simp (eq-eqb _ _ c.if-i-eq0.true)
 
-pub returns : goal.returns
+pub returns-else-i-eq0 : goal.returns-else-i-eq0
 unfolding part reg
-returns c = simp (ne_eqb _ _ c.if-i-eq0.false) c.reg.ensures
+returns-else-i-eq0 c = simp (ne_eqb _ _ c.if-i-eq0.false) c.reg.ensures

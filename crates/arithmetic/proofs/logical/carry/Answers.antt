@@ -8,5 +8,5 @@ returns-then-sum-lt4294967296 c = search carry_none
 pub overflow_add-zero : goal.overflow_add-zero
 overflow_add-zero c = omega (arith, zero_small _ _ c.zero_code-zero.ensures)
 
-pub returns : goal.returns
-returns c = search carry_one
+pub returns-else-sum-lt4294967296 : goal.returns-else-sum-lt4294967296
+returns-else-sum-lt4294967296 c = search carry_one

@@ -8,5 +8,5 @@ returns-then-a-top c = search (left_low, rules)
 pub overflow_add-result : goal.overflow_add-result
 overflow_add-result c = search (sum_small, rules)
 
-pub returns : goal.returns
-returns c = search (left_high, rules)
+pub returns-else-a-top : goal.returns-else-a-top
+returns-else-a-top c = search (left_high, rules)

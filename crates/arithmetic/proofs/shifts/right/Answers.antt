@@ -5,8 +5,8 @@ use Rattle.arithmetic.proofs.shifts.right.Goals as goal
 pub returns-then-a-top : goal.returns-then-a-top
 returns-then-a-top c = search (right_low, rules)
 
-pub overflow_sub-result-2 : goal.overflow_sub-result-2
-overflow_sub-result-2 c = search (complement_small, rules)
+pub overflow_sub-result-else-a-top : goal.overflow_sub-result-else-a-top
+overflow_sub-result-else-a-top c = search (complement_small, rules)
 
-pub returns : goal.returns
-returns c = search (right_high, rules)
+pub returns-else-a-top : goal.returns-else-a-top
+returns-else-a-top c = search (right_high, rules)

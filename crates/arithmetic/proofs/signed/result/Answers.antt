@@ -1,14 +1,15 @@
 use Rattle.arithmetic.proofs.Results.{result_below, result_zero, result_above, result_over}
+use borrow.Author.Rules.{rules}
 use Rattle.arithmetic.proofs.signed.result.Goals as goal
 
-pub returns-then-q-eq1 : goal.returns-then-q-eq1
-returns-then-q-eq1 c = search result_below
+pub returns-in-1 : goal.returns-in-1
+returns-in-1 c = search (result_below, rules)
 
-pub returns-then-value-eq0 : goal.returns-then-value-eq0
-returns-then-value-eq0 c = search result_zero
+pub returns-in_default : goal.returns-in_default
+returns-in_default c = search (result_over, rules)
 
-pub returns-else-value-eq0 : goal.returns-else-value-eq0
-returns-else-value-eq0 c = search result_above
+pub returns-in-2 : goal.returns-in-2
+returns-in-2 c = search (result_zero, rules)
 
-pub returns : goal.returns
-returns c = search result_over
+pub returns-in-2-2 : goal.returns-in-2-2
+returns-in-2-2 c = search (result_above, rules)

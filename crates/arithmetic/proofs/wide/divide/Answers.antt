@@ -1,3 +1,4 @@
+use Rattle.words.specs.Whole.{word_top}
 use Rattle.arithmetic.proofs.Sizes.{size_above}
 use Rattle.arithmetic.proofs.Pairs.{divide_zero, divide_over, divide_fits}
 use borrow.Author.Rules.{rules}
@@ -13,7 +14,7 @@ pub returns-then-is_too_large : goal.returns-then-is_too_large
 returns-then-is_too_large c = search (divide_over, rules)
 
 pub nonzero_rem-size : goal.nonzero_rem-size
-nonzero_rem-size c = search (size_above, rules)
+nonzero_rem-size c = size_above word_top _ _ (search rules) c.if-b-eq0.false (search rules)
 
 pub returns : goal.returns
 returns c = search (divide_fits, rules)

@@ -5,5 +5,5 @@ use Rattle.arithmetic.proofs.wide.is_too_large.Goals as goal
 pub returns-then-minus : goal.returns-then-minus
 returns-then-minus c = search (over_below, rules)
 
-pub returns : goal.returns
-returns c = search (over_above, rules)
+pub returns-else-minus : goal.returns-else-minus
+returns-else-minus c = search (over_above, rules)

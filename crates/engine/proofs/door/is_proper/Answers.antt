@@ -22,14 +22,14 @@ pub returns-then-size-gt262144 : goal.returns-then-size-gt262144
 unfolding proper
 returns-then-size-gt262144 c = simp (eq-eqb _ _ c.if-regs-ne16.false, eq-eqb _ _ c.if-map-ne512.false, eq-eqb _ _ c.if-size-ne0.false, le-leb _ _ c.if-size-lt4096.false, lt-leb _ _ c.if-size-gt262144.true)
 
-pub returns-then-pc-ge16777216 : goal.returns-then-pc-ge16777216
+pub returns-then-c-ge16777216 : goal.returns-then-c-ge16777216
 unfolding proper
-returns-then-pc-ge16777216 c = simp (eq-eqb _ _ c.if-regs-ne16.false, eq-eqb _ _ c.if-map-ne512.false, eq-eqb _ _ c.if-size-ne0.false, le-leb _ _ c.if-size-lt4096.false, le-leb _ _ c.if-size-gt262144.false, le-ltb _ _ c.if-pc-ge16777216.true)
+returns-then-c-ge16777216 c = simp (eq-eqb _ _ c.if-regs-ne16.false, eq-eqb _ _ c.if-map-ne512.false, eq-eqb _ _ c.if-size-ne0.false, le-leb _ _ c.if-size-lt4096.false, le-leb _ _ c.if-size-gt262144.false, le-ltb _ _ c.if-c-ge16777216.true)
 
-pub returns-then-code-ge4 : goal.returns-then-code-ge4
+pub returns-then-c-ge4 : goal.returns-then-c-ge4
 unfolding proper
-returns-then-code-ge4 c = simp (eq-eqb _ _ c.if-regs-ne16.false, eq-eqb _ _ c.if-map-ne512.false, eq-eqb _ _ c.if-size-ne0.false, le-leb _ _ c.if-size-lt4096.false, le-leb _ _ c.if-size-gt262144.false, lt-ltb _ _ c.if-pc-ge16777216.false, le-ltb _ _ c.if-code-ge4.true)
+returns-then-c-ge4 c = simp (eq-eqb _ _ c.if-regs-ne16.false, eq-eqb _ _ c.if-map-ne512.false, eq-eqb _ _ c.if-size-ne0.false, le-leb _ _ c.if-size-lt4096.false, le-leb _ _ c.if-size-gt262144.false, lt-ltb _ _ c.if-c-ge16777216.false, le-ltb _ _ c.if-c-ge4.true)
 
 pub returns : goal.returns
 unfolding proper
-returns c = simp (eq-eqb _ _ c.if-regs-ne16.false, eq-eqb _ _ c.if-map-ne512.false, eq-eqb _ _ c.if-size-ne0.false, le-leb _ _ c.if-size-lt4096.false, le-leb _ _ c.if-size-gt262144.false, lt-ltb _ _ c.if-pc-ge16777216.false, lt-ltb _ _ c.if-code-ge4.false)
+returns c = simp (eq-eqb _ _ c.if-regs-ne16.false, eq-eqb _ _ c.if-map-ne512.false, eq-eqb _ _ c.if-size-ne0.false, le-leb _ _ c.if-size-lt4096.false, le-leb _ _ c.if-size-gt262144.false, lt-ltb _ _ c.if-c-ge16777216.false, lt-ltb _ _ c.if-c-ge4.false)

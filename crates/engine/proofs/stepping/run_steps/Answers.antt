@@ -9,26 +9,26 @@ loop-left-init c = (run_start _ _ _, omega arith, refl, refl, refl)
 pub overflow_sub-result : goal.overflow_sub-result
 overflow_sub-result c = omega (arith, c.hurry-spun.ensures.most)
 
-pub shape_of-regs-in-Stop : goal.shape_of-regs-in-Stop
-shape_of-regs-in-Stop c = c.step_once-out.auto.regs ∙ c.hurry-spun.auto.regs ∙ c.loop-left.invariant.2
+pub shape_of-regs-in-Err : goal.shape_of-regs-in-Err
+shape_of-regs-in-Err c = c.step_once-out.auto.regs ∙ c.hurry-spun.auto.regs ∙ c.loop-left.invariant.2
 
-pub shape_of-mem-in-Stop : goal.shape_of-mem-in-Stop
-shape_of-mem-in-Stop c = c.step_once-out.auto.mem ∙ c.hurry-spun.auto.mem ∙ c.loop-left.invariant.3
+pub shape_of-mem-in-Err : goal.shape_of-mem-in-Err
+shape_of-mem-in-Err c = c.step_once-out.auto.mem ∙ c.hurry-spun.auto.mem ∙ c.loop-left.invariant.3
 
-pub shape_of-map-in-Stop : goal.shape_of-map-in-Stop
-shape_of-map-in-Stop c = c.step_once-out.auto.map ∙ c.hurry-spun.auto.map ∙ c.loop-left.invariant.4
+pub shape_of-map-in-Err : goal.shape_of-map-in-Err
+shape_of-map-in-Err c = c.step_once-out.auto.map ∙ c.hurry-spun.auto.map ∙ c.loop-left.invariant.4
 
-pub returns-in-Stop : goal.returns-in-Stop
-returns-in-Stop c = (run_stop _ _ _ _ _ _ (c.hurry-spun.ensures.stays c.if-spun.true c.loop-left-test.true) _ _ _ _ _ _ c.step_once-out.ensures c.in-Stop.is ∙ sym (run_further _ _ _ c.loop-left.invariant.1 c.hurry-spun.ensures.most _ _ _ c.loop-left.invariant.0 c.hurry-spun.ensures.so_far), omega arith)
+pub returns-in-Err : goal.returns-in-Err
+returns-in-Err c = (run_stop _ _ _ _ _ _ (c.hurry-spun.ensures.stays c.if-spun.true c.loop-left-test.true) _ _ _ _ _ c.step_once-out.ensures c.in-Err.is ∙ sym (run_further _ _ _ c.loop-left.invariant.1 c.hurry-spun.ensures.most _ _ _ c.loop-left.invariant.0 c.hurry-spun.ensures.so_far), omega arith)
 
 pub overflow_sub-left : goal.overflow_sub-left
 overflow_sub-left c = omega (arith, c.hurry-spun.ensures.stays c.if-spun.true c.loop-left-test.true)
 
-pub loop-left-smaller-in-Done : goal.loop-left-smaller-in-Done
-loop-left-smaller-in-Done c = omega (arith, c.hurry-spun.ensures.most, c.hurry-spun.ensures.stays c.if-spun.true c.loop-left-test.true)
+pub loop-left-smaller-in-Ok : goal.loop-left-smaller-in-Ok
+loop-left-smaller-in-Ok c = omega (arith, c.hurry-spun.ensures.most, c.hurry-spun.ensures.stays c.if-spun.true c.loop-left-test.true)
 
-pub loop-left-preserved-in-Done : goal.loop-left-preserved-in-Done
-loop-left-preserved-in-Done c = (run_further _ _ _ c.loop-left.invariant.1 c.hurry-spun.ensures.most _ _ _ c.loop-left.invariant.0 c.hurry-spun.ensures.so_far ∙ run_on _ _ _ _ _ _ (c.hurry-spun.ensures.stays c.if-spun.true c.loop-left-test.true) (omega (arith, c.loop-left.invariant.1, c.hurry-spun.ensures.most)) _ _ _ _ _ c.step_once-out.ensures c.in-Done.is, omega (arith, c.loop-left.invariant.1, c.hurry-spun.ensures.most), c.step_once-out.auto.regs ∙ c.hurry-spun.auto.regs ∙ c.loop-left.invariant.2, c.step_once-out.auto.mem ∙ c.hurry-spun.auto.mem ∙ c.loop-left.invariant.3, c.step_once-out.auto.map ∙ c.hurry-spun.auto.map ∙ c.loop-left.invariant.4)
+pub loop-left-preserved-in-Ok : goal.loop-left-preserved-in-Ok
+loop-left-preserved-in-Ok c = (run_further _ _ _ c.loop-left.invariant.1 c.hurry-spun.ensures.most _ _ _ c.loop-left.invariant.0 c.hurry-spun.ensures.so_far ∙ run_on _ _ _ _ _ _ (c.hurry-spun.ensures.stays c.if-spun.true c.loop-left-test.true) (omega (arith, c.loop-left.invariant.1, c.hurry-spun.ensures.most)) _ _ _ _ _ c.step_once-out.ensures c.in-Ok.is, omega (arith, c.loop-left.invariant.1, c.hurry-spun.ensures.most), c.step_once-out.auto.regs ∙ c.hurry-spun.auto.regs ∙ c.loop-left.invariant.2, c.step_once-out.auto.mem ∙ c.hurry-spun.auto.mem ∙ c.loop-left.invariant.3, c.step_once-out.auto.map ∙ c.hurry-spun.auto.map ∙ c.loop-left.invariant.4)
 
 pub loop-left-smaller : goal.loop-left-smaller
 loop-left-smaller c = c.hurry-spun.ensures.goes c.if-spun.false c.loop-left-test.true

@@ -1,10 +1,6 @@
-use Rattle.std.proofs.Common.{◌≡◌, ◌+◌, ◌≤◌, length}
+use Rattle.std.proofs.Common.{◌≡◌, ◌+◌, ◌-◌}
 use Rattle.fields.specs.Direct.{flat_compare}
 use Rattle.fields.proofs.blocks.compare_on.Given as goal
 
-abbrev pub invariant-loop-left : goal.invariant-loop-left
-invariant-loop-left l =
-    (flat_compare l.mem l.first l.second l.len ≡ flat_compare l.mem l.a l.b l.left) × (l.a + l.left ≤ length l.mem) × (l.b + l.left ≤ length l.mem)
-
-abbrev pub decreases-loop-left : goal.decreases-loop-left
-decreases-loop-left l = l.left
+abbrev pub invariant-loop-i : goal.invariant-loop-i
+invariant-loop-i l = flat_compare l.mem l.first l.second l.len ≡ flat_compare l.mem (l.first + l.i) (l.second + l.i) (l.len - l.i)

@@ -5,10 +5,7 @@ use Rattle.fields.proofs.blocks.is_alike.Goals as goal
 use Rattle.fields.proofs.blocks.is_alike.Goals.{then-most-d, else-most-d}
 
 pub loop-i-init : goal.loop-i-init
-loop-i-init c = (λ z. flat_compare_none _ _ _ 0 (omega arith), λ z. refl, omega arith)
-
-pub loop-i-smaller : goal.loop-i-smaller
-loop-i-smaller c = omega arith
+loop-i-init c = (λ z. flat_compare_none _ _ _ 0 (omega arith), λ z. refl)
 
 pub loop-i-preserved : goal.loop-i-preserved
 loop-i-preserved c = (
@@ -19,10 +16,9 @@ loop-i-preserved c = (
       let p = c.loop-i.invariant.1 (alike_fewer _ _ _ _ _ z (omega arith)) in
       let q = c.apart-d.ensures.1 (alike_at _ _ _ _ z) in
       elim c.if-most-d.branch [ then-most-d w ↦ omega arith | else-most-d w ↦ omega arith ],
-  omega arith,
 )
 
 pub returns : goal.returns
 returns c =
-    let e : c.loop-i.i ≡ c.args.n = omega arith in
+    let e : c.loop-i.i ≡ c.args.n = omega (arith, c.loop-i.auto.i-end, c.loop-i-test.false) in
     (λ z. rw e at (c.loop-i.invariant.0 (eqb-true _ _ z)), λ z. eq-eqb _ _ (c.loop-i.invariant.1 (rw e z)))

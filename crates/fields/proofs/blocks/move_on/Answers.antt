@@ -1,24 +1,23 @@
-use Rattle.std.proofs.Common.{get_or, sym, refl, ◌∙◌, arith, length-set}
+use Rattle.std.proofs.Common.{◌≡◌, ◌+◌, ◌-◌, get_or, set, sym, ◌∙◌, arith}
+use Rattle.fields.specs.Direct.{flat_move}
 use Rattle.fields.proofs.FlatLoops.{flat_move_turn, flat_move_none}
 use Rattle.fields.proofs.blocks.move_on.Goals as goal
 
-pub loop-left-init : goal.loop-left-init
-loop-left-init c = (refl, refl, c.requires.0, c.requires.1)
+pub loop-i-init : goal.loop-i-init
+loop-i-init c =
+    let e : c.args.to ≡ c.args.to + 0 = omega arith in
+    let f : c.args.from ≡ c.args.from + 0 = omega arith in
+    let g : c.args.len ≡ c.args.len - 0 = omega arith in
+    λ j. flat_move c.args.mem.now (e j) (f j) (g j)
 
-pub bounds-mem-b : goal.bounds-mem-b
-bounds-mem-b c = omega (arith, c.loop-left.invariant.1, c.loop-left.invariant.3, c.loop-left-test.true)
-
-pub bounds-mem-a : goal.bounds-mem-a
-bounds-mem-a c = omega (arith, c.loop-left.invariant.1, c.loop-left.invariant.2, c.loop-left-test.true)
-
-pub loop-left-smaller : goal.loop-left-smaller
-loop-left-smaller c = omega (arith, c.loop-left-test.true)
-
-pub loop-left-preserved : goal.loop-left-preserved
-loop-left-preserved c = (c.loop-left.invariant.0 ∙ flat_move_turn _ _ _ _ c.loop-left-test.true, length-set c.loop-left.mem c.loop-left.a (get_or c.loop-left.mem c.loop-left.b 0) ∙ c.loop-left.invariant.1, omega (arith, c.loop-left.invariant.2, c.loop-left-test.true), omega (arith, c.loop-left.invariant.3, c.loop-left-test.true))
-
-pub shape_of-mem : goal.shape_of-mem
-shape_of-mem c = c.loop-left.invariant.1
+pub loop-i-preserved : goal.loop-i-preserved
+loop-i-preserved c =
+    let e : c.args.to + c.loop-i.i + 1 ≡ c.args.to + (c.loop-i.i + 1) = omega arith in
+    let f : c.args.from + c.loop-i.i + 1 ≡ c.args.from + (c.loop-i.i + 1) = omega arith in
+    let g : c.args.len - c.loop-i.i - 1 ≡ c.args.len - (c.loop-i.i + 1) = omega arith in
+    c.loop-i.invariant
+    ∙ flat_move_turn _ _ _ _ (omega (arith, c.loop-i-test.true))
+    ∙ (λ j. flat_move (set c.loop-i.mem (c.args.to + c.loop-i.i) (get_or c.loop-i.mem (c.args.from + c.loop-i.i) 0)) (e j) (f j) (g j))
 
 pub returns : goal.returns
-returns c = sym (c.loop-left.invariant.0 ∙ flat_move_none _ _ _ _ c.loop-left-test.false)
+returns c = sym (c.loop-i.invariant ∙ flat_move_none _ _ _ _ (omega (arith, c.loop-i-test.false)))

@@ -1,21 +1,20 @@
-use Rattle.std.proofs.Common.{sym, refl, ◌∙◌, arith}
-use Rattle.fields.proofs.ByteLoops.{move_turn, move_none}
+use Rattle.std.proofs.Common.{sym, refl, ◌∙◌}
+use Rattle.pages.specs.Word.{next}
+use Rattle.fields.proofs.ByteLoops.{none_done, one_done, some_left, all_done, move_turn, move_none}
 use Rattle.fields.proofs.each.move_bytes.Goals as goal
 
-pub loop-left-init : goal.loop-left-init
-loop-left-init c = (refl, refl, refl)
+pub loop-init : goal.loop-init
+loop-init c = (rw (none_done c.args.len) refl, refl, refl)
 
-pub loop-left-smaller : goal.loop-left-smaller
-loop-left-smaller c = omega arith
-
-pub loop-left-preserved : goal.loop-left-preserved
-loop-left-preserved c = (rw (c.write_byte.ensures, c.read_byte-v.ensures, c.next_of-a.ensures, c.next_of-b.ensures) (c.loop-left.invariant.0 ∙ move_turn _ _ _ _ c.loop-left-test.true), c.write_byte.auto.mem ∙ c.loop-left.invariant.1, c.write_byte.auto.map ∙ c.loop-left.invariant.2)
+pub loop-preserved : goal.loop-preserved
+unfolding next
+loop-preserved c = (rw (one_done c.args.len c.loop.counter, c.write_byte.ensures, c.read_byte-v.ensures, c.past_of-a.ensures, c.past_of-b.ensures) (c.loop.invariant.0 ∙ move_turn _ _ _ _ (some_left _ _ c.loop-test.true)), c.write_byte.auto.mem ∙ c.loop.invariant.1, c.write_byte.auto.map ∙ c.loop.invariant.2)
 
 pub shape_of-mem : goal.shape_of-mem
-shape_of-mem c = c.loop-left.invariant.1
+shape_of-mem c = c.loop.invariant.1
 
 pub shape_of-map : goal.shape_of-map
-shape_of-map c = c.loop-left.invariant.2
+shape_of-map c = c.loop.invariant.2
 
 pub returns : goal.returns
-returns c = sym (c.loop-left.invariant.0 ∙ move_none _ c.loop-left-test.false _ _ _)
+returns c = sym (c.loop.invariant.0 ∙ move_none _ (all_done _ _ c.loop-test.false) _ _ _)

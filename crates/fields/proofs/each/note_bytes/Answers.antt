@@ -1,21 +1,17 @@
-use Rattle.std.proofs.Common.{sym, refl, ◌∙◌, arith}
-use Rattle.fields.proofs.ByteLoops.{note_turn, note_none}
+use Rattle.std.proofs.Common.{sym, refl, ◌∙◌}
+use Rattle.pages.specs.Word.{next}
+use Rattle.fields.proofs.ByteLoops.{none_done, one_done, some_left, all_done, note_turn, note_none}
 use Rattle.fields.proofs.each.note_bytes.Goals as goal
 
-pub loop-left-init : goal.loop-left-init
-loop-left-init c = (refl, refl)
+pub loop-init : goal.loop-init
+loop-init c = (rw (none_done c.args.len) refl, refl)
 
-pub overflow_sub-left : goal.overflow_sub-left
-overflow_sub-left c = omega (arith, c.loop-left-test.true)
-
-pub loop-left-smaller : goal.loop-left-smaller
-loop-left-smaller c = omega (arith, c.loop-left-test.true)
-
-pub loop-left-preserved : goal.loop-left-preserved
-loop-left-preserved c = (c.loop-left.invariant.0 ∙ note_turn _ _ _ c.loop-left-test.true _ c.note.ensures _ c.next_of-a.ensures, c.note.auto.map ∙ c.loop-left.invariant.1)
+pub loop-preserved : goal.loop-preserved
+unfolding next
+loop-preserved c = (rw (one_done c.args.len c.loop.counter) (c.loop.invariant.0 ∙ note_turn _ _ _ (some_left _ _ c.loop-test.true) _ c.mark.ensures _ c.past_of-a.ensures), c.mark.auto.map ∙ c.loop.invariant.1)
 
 pub shape_of-map : goal.shape_of-map
-shape_of-map c = c.loop-left.invariant.1
+shape_of-map c = c.loop.invariant.1
 
 pub returns : goal.returns
-returns c = sym (c.loop-left.invariant.0 ∙ note_none _ c.loop-left-test.false _ _)
+returns c = sym (c.loop.invariant.0 ∙ note_none _ (all_done _ _ c.loop-test.false) _ _)

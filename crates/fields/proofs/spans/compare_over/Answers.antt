@@ -1,35 +1,23 @@
-use Rattle.std.proofs.Common.{◌<◌, sym, ◌∙◌, arith}
+use Rattle.std.proofs.Common.{sym, ◌∙◌, arith}
 use Rattle.fields.specs.Direct.{compare_field}
 use Rattle.fields.proofs.BothLooked.{order_yes}
 use Rattle.fields.proofs.Spanned.{spans_both, spans_paged, noted_spans, step_is, compare_is, piece_some, piece_left, first_room, second_room, spot_low, compared_unlike, compared_alike, begun, all_alike}
 use Rattle.fields.proofs.spans.compare_over.Goals as goal
 
-pub span_of-s-requires : goal.span_of-s-requires
-span_of-s-requires c = c.requires.1
+pub span_of-requires : goal.span_of-requires
+span_of-requires c = (c.requires.0, c.requires.1)
 
-pub span_of-t-requires : goal.span_of-t-requires
-span_of-t-requires c = c.requires.2
-
-pub compare_field-requires : goal.compare_field-requires
-compare_field-requires c = c.requires.0
-
-pub returns-then-s-eq0 : goal.returns-then-s-eq0
-returns-then-s-eq0 c = c.compare_field.ensures
-
-pub compare_field-requires-then-t-eq0 : goal.compare_field-requires-then-t-eq0
-compare_field-requires-then-t-eq0 c = c.requires.0
-
-pub returns-then-t-eq0 : goal.returns-then-t-eq0
-returns-then-t-eq0 c = c.compare_field-then-t-eq0.ensures
+pub span_of-requires-2 : goal.span_of-requires-2
+span_of-requires-2 c = (c.requires.0, c.requires.2)
 
 pub note_span-requires : goal.note_span-requires
-note_span-requires c = let l : 0 < c.span_of-s.result.len = omega (arith, c.if-s-eq0.false) in spans_paged _ _ _ _ _ _ c.requires.0 l (c.span_of-s.ensures.0 l)
+note_span-requires c = let p = c.in-Some.ensures.0 in spans_paged _ _ _ _ _ _ c.requires.0 p.0 p.1
 
 pub note_span-requires-2 : goal.note_span-requires-2
-note_span-requires-2 c = let l : 0 < c.span_of-t.result.len = omega (arith, c.if-t-eq0.false) in spans_paged _ _ _ _ _ _ c.requires.0 l (c.span_of-t.ensures.0 l)
+note_span-requires-2 c = let p = c.in-Some-span_of.ensures.0 in spans_paged _ _ _ _ _ _ c.requires.0 p.0 p.1
 
 pub loop-i-init : goal.loop-i-init
-loop-i-init c = (begun (compare_field _) _ _ _ _ _ _ _ _ (c.span_of-s.ensures.0 (omega (arith, c.if-s-eq0.false))) (c.span_of-t.ensures.0 (omega (arith, c.if-t-eq0.false))), omega arith, noted_spans _ _ _ _ _ _ _ c.note_span.ensures c.note_span-2.ensures _ _ _ _ (c.span_of-s.ensures.0 (omega (arith, c.if-s-eq0.false))), noted_spans _ _ _ _ _ _ _ c.note_span.ensures c.note_span-2.ensures _ _ _ _ (c.span_of-t.ensures.0 (omega (arith, c.if-t-eq0.false))))
+loop-i-init c = (begun (compare_field _) _ _ _ _ _ _ _ _ c.in-Some.ensures.0.1 c.in-Some-span_of.ensures.0.1, omega arith, noted_spans _ _ _ _ _ _ _ c.note_span.ensures c.note_span-2.ensures _ _ _ _ c.in-Some.ensures.0.1, noted_spans _ _ _ _ _ _ _ c.note_span.ensures c.note_span-2.ensures _ _ _ _ c.in-Some-span_of.ensures.0.1)
 
 pub rest_of-requires : goal.rest_of-requires
 rest_of-requires c = c.loop-i.invariant.1
@@ -50,7 +38,7 @@ pub shape_of-map-then-code-ne0 : goal.shape_of-map-then-code-ne0
 shape_of-map-then-code-ne0 c = c.note_span-2.auto.map ∙ c.note_span.auto.map
 
 pub returns-then-code-ne0 : goal.returns-then-code-ne0
-returns-then-code-ne0 c = let e = step_is _ _ _ _ _ _ _ c.fewer_of-step.ensures c.rest_of.ensures c.rest_of-in-loop-i.ensures in order_yes _ _ _ _ _ _ _ (spans_both _ _ _ _ _ _ _ _ (c.span_of-s.ensures.0 (omega (arith, c.if-s-eq0.false))) (c.span_of-t.ensures.0 (omega (arith, c.if-t-eq0.false)))) _ _ c.requires.1 _ _ c.note_span.ensures c.note_span-2.ensures _ (compared_unlike _ _ _ _ _ _ _ c.loop-i.invariant.2 c.loop-i.invariant.3 _ _ c.loop-i-test.true e _ (compare_is _ _ _ _ _ _ _ c.compare_flat-code.ensures c.spot_of.ensures c.spot_of-in-loop-i.ensures) c.if-code-ne0.true ∙ sym c.loop-i.invariant.0)
+returns-then-code-ne0 c = let e = step_is _ _ _ _ _ _ _ c.fewer_of-step.ensures c.rest_of.ensures c.rest_of-in-loop-i.ensures in order_yes _ _ _ _ _ _ _ (spans_both _ _ _ _ _ _ _ _ c.in-Some.ensures.0.1 c.in-Some-span_of.ensures.0.1) _ _ c.requires.1 _ _ c.note_span.ensures c.note_span-2.ensures _ (compared_unlike _ _ _ _ _ _ _ c.loop-i.invariant.2 c.loop-i.invariant.3 _ _ c.loop-i-test.true e _ (compare_is _ _ _ _ _ _ _ c.compare_flat-code.ensures c.spot_of.ensures c.spot_of-in-loop-i.ensures) c.if-code-ne0.true ∙ sym c.loop-i.invariant.0)
 
 pub overflow_add-i : goal.overflow_add-i
 overflow_add-i c = let e = step_is _ _ _ _ _ _ _ c.fewer_of-step.ensures c.rest_of.ensures c.rest_of-in-loop-i.ensures in let l = piece_left _ _ _ _ _ _ _ _ c.loop-i.invariant.2 c.loop-i.invariant.3 _ _ c.loop-i-test.true e in record { fits = omega (arith, l, c.ranges.n) }
@@ -65,4 +53,4 @@ pub shape_of-map : goal.shape_of-map
 shape_of-map c = c.note_span-2.auto.map ∙ c.note_span.auto.map
 
 pub returns : goal.returns
-returns c = order_yes _ _ _ _ _ _ _ (spans_both _ _ _ _ _ _ _ _ (c.span_of-s.ensures.0 (omega (arith, c.if-s-eq0.false))) (c.span_of-t.ensures.0 (omega (arith, c.if-t-eq0.false)))) _ _ c.requires.1 _ _ c.note_span.ensures c.note_span-2.ensures _ (all_alike _ _ _ _ _ _ _ _ c.loop-i.invariant.0 c.loop-i-test.false)
+returns c = order_yes _ _ _ _ _ _ _ (spans_both _ _ _ _ _ _ _ _ c.in-Some.ensures.0.1 c.in-Some-span_of.ensures.0.1) _ _ c.requires.1 _ _ c.note_span.ensures c.note_span-2.ensures _ (all_alike _ _ _ _ _ _ _ _ c.loop-i.invariant.0 c.loop-i-test.false)

@@ -1,34 +1,22 @@
-use Rattle.std.proofs.Common.{◌<◌, sym, refl, ◌∙◌, arith}
+use Rattle.std.proofs.Common.{sym, refl, ◌∙◌, arith}
 use Rattle.fields.specs.Direct.{move_field}
 use Rattle.fields.proofs.Spanned.{spans_both, spans_paged, noted_spans, step_is, move_is, all_moved, piece_some, piece_left, first_room, second_room, spot_low, moved_on, still_spans, begun, mark_is}
 use Rattle.fields.proofs.spans.move_over.Goals as goal
 
-pub span_of-s-requires : goal.span_of-s-requires
-span_of-s-requires c = c.requires.1
+pub span_of-requires : goal.span_of-requires
+span_of-requires c = (c.requires.0, c.requires.1)
 
-pub span_of-t-requires : goal.span_of-t-requires
-span_of-t-requires c = c.requires.2
-
-pub move_field-requires : goal.move_field-requires
-move_field-requires c = c.requires.0
-
-pub returns-then-s-eq0 : goal.returns-then-s-eq0
-returns-then-s-eq0 c = c.move_field.ensures
-
-pub move_field-requires-then-t-eq0 : goal.move_field-requires-then-t-eq0
-move_field-requires-then-t-eq0 c = c.requires.0
-
-pub returns-then-t-eq0 : goal.returns-then-t-eq0
-returns-then-t-eq0 c = c.move_field-then-t-eq0.ensures
+pub span_of-requires-2 : goal.span_of-requires-2
+span_of-requires-2 c = (c.requires.0, c.requires.2)
 
 pub note_span-requires : goal.note_span-requires
-note_span-requires c = let l : 0 < c.span_of-s.result.len = omega (arith, c.if-s-eq0.false) in spans_paged _ _ _ _ _ _ c.requires.0 l (c.span_of-s.ensures.0 l)
+note_span-requires c = let p = c.in-Some.ensures.0 in spans_paged _ _ _ _ _ _ c.requires.0 p.0 p.1
 
 pub note_span-requires-2 : goal.note_span-requires-2
-note_span-requires-2 c = let l : 0 < c.span_of-t.result.len = omega (arith, c.if-t-eq0.false) in spans_paged _ _ _ _ _ _ c.requires.0 l (c.span_of-t.ensures.0 l)
+note_span-requires-2 c = let p = c.in-Some-span_of.ensures.0 in spans_paged _ _ _ _ _ _ c.requires.0 p.0 p.1
 
 pub loop-i-init : goal.loop-i-init
-loop-i-init c = (begun (move_field _) _ _ _ _ _ _ _ _ (c.span_of-s.ensures.0 (omega (arith, c.if-s-eq0.false))) (c.span_of-t.ensures.0 (omega (arith, c.if-t-eq0.false))), refl, refl, omega arith, noted_spans _ _ _ _ _ _ _ c.note_span.ensures c.note_span-2.ensures _ _ _ _ (c.span_of-s.ensures.0 (omega (arith, c.if-s-eq0.false))), noted_spans _ _ _ _ _ _ _ c.note_span.ensures c.note_span-2.ensures _ _ _ _ (c.span_of-t.ensures.0 (omega (arith, c.if-t-eq0.false))))
+loop-i-init c = (begun (move_field _) _ _ _ _ _ _ _ _ c.in-Some.ensures.0.1 c.in-Some-span_of.ensures.0.1, refl, refl, omega arith, noted_spans _ _ _ _ _ _ _ c.note_span.ensures c.note_span-2.ensures _ _ _ _ c.in-Some.ensures.0.1, noted_spans _ _ _ _ _ _ _ c.note_span.ensures c.note_span-2.ensures _ _ _ _ c.in-Some-span_of.ensures.0.1)
 
 pub rest_of-requires : goal.rest_of-requires
 rest_of-requires c = c.loop-i.invariant.3
@@ -61,4 +49,4 @@ pub shape_of-map : goal.shape_of-map
 shape_of-map c = c.loop-i.invariant.2 ∙ c.note_span-2.auto.map ∙ c.note_span.auto.map
 
 pub returns : goal.returns
-returns c = (sym c.requires.1 ∙ spans_both _ _ _ _ _ _ _ _ (c.span_of-s.ensures.0 (omega (arith, c.if-s-eq0.false))) (c.span_of-t.ensures.0 (omega (arith, c.if-t-eq0.false))), all_moved _ _ _ _ _ _ _ _ _ _ _ _ c.loop-i.invariant.0 c.loop-i-test.false c.note_span.ensures c.note_span-2.ensures)
+returns c = (sym c.requires.1 ∙ spans_both _ _ _ _ _ _ _ _ c.in-Some.ensures.0.1 c.in-Some-span_of.ensures.0.1, all_moved _ _ _ _ _ _ _ _ _ _ _ _ c.loop-i.invariant.0 c.loop-i-test.false c.note_span.ensures c.note_span-2.ensures)

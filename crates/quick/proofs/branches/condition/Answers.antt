@@ -7,10 +7,10 @@ use Rattle.quick.proofs.Branching.{went, stayed, both_true, both_left, both_righ
 use Rattle.quick.proofs.branches.condition.Goals as goal
 
 pub returns-then-is_chosen : goal.returns-then-is_chosen
-returns-then-is_chosen c = went c.args.p c.requires.0 c.args.regs.now _ (λ x. done (branch OnCondition c.args.len (left_of c.args.p.text) c.args.to c.args.may x)) _ c.args.to c.args.len (on_condition c.args.p c.args.regs.now c.args.len (left_of c.args.p.text) c.args.to c.args.may) (both_true _ _ c.if-may.true (sym c.is_chosen.ensures ∙ c.if-is_chosen.true)) _ c.go.ensures
+returns-then-is_chosen c = went c.args.p c.args.regs.now _ (λ x. done (branch OnCondition c.args.len (left_of c.args.p.text) c.args.to c.args.may x)) _ c.args.to c.args.len (on_condition c.args.p c.args.regs.now c.args.len (left_of c.args.p.text) c.args.to c.args.may) (both_true _ _ c.if-may.true (sym c.is_chosen.ensures ∙ c.if-is_chosen.true)) _ c.go.ensures
 
 pub returns-then-may : goal.returns-then-may
-returns-then-may c = stayed c.args.p c.requires.0 c.args.regs.now _ (λ x. done (branch OnCondition c.args.len (left_of c.args.p.text) c.args.to c.args.may x)) _ c.args.to c.args.len (on_condition c.args.p c.args.regs.now c.args.len (left_of c.args.p.text) c.args.to c.args.may) c.requires.1.1 c.requires.1.0 (both_right _ _ c.if-may.true (sym c.is_chosen.ensures ∙ c.if-is_chosen.false))
+returns-then-may c = stayed c.args.p c.args.regs.now _ (λ x. done (branch OnCondition c.args.len (left_of c.args.p.text) c.args.to c.args.may x)) _ c.args.to c.args.len (on_condition c.args.p c.args.regs.now c.args.len (left_of c.args.p.text) c.args.to c.args.may) c.requires.1 c.requires.0 (both_right _ _ c.if-may.true (sym c.is_chosen.ensures ∙ c.if-is_chosen.false))
 
 pub returns : goal.returns
-returns c = stayed c.args.p c.requires.0 c.args.regs.now _ (λ x. done (branch OnCondition c.args.len (left_of c.args.p.text) c.args.to c.args.may x)) _ c.args.to c.args.len (on_condition c.args.p c.args.regs.now c.args.len (left_of c.args.p.text) c.args.to c.args.may) c.requires.1.1 c.requires.1.0 (both_left _ _ c.if-may.false)
+returns c = stayed c.args.p c.args.regs.now _ (λ x. done (branch OnCondition c.args.len (left_of c.args.p.text) c.args.to c.args.may x)) _ c.args.to c.args.len (on_condition c.args.p c.args.regs.now c.args.len (left_of c.args.p.text) c.args.to c.args.may) c.requires.1 c.requires.0 (both_left _ _ c.if-may.false)

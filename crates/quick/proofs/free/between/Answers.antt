@@ -8,4 +8,4 @@ use Rattle.quick.proofs.free.between.Goals as goal
 
 pub returns : goal.returns
 unfolding rr
-returns c = settled c.args.p c.requires c.args.regs.now _ 2 refl (omega arith) c.combine-n.result (rr (Registers c.args.op)) _ (rr_of c.args.p.text) refl _ c.state.ensures c.combine-n.ensures refl refl
+returns c = settled c.args.p c.args.regs.now _ 2 refl (omega arith) c.combine-n.result (rr (Registers c.args.op)) _ (rr_of c.args.p.text) refl _ c.state.ensures c.combine-n.ensures refl refl

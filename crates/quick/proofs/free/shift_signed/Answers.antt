@@ -10,4 +10,4 @@ use Rattle.quick.proofs.free.shift_signed.Goals as goal
 
 pub returns : goal.returns
 unfolding rs
-returns c = settled c.args.p c.requires.0 c.args.regs.now _ 4 refl (omega arith) c.shift_signed-n.result (rs (ShiftSigned c.args.to)) _ (rs_of c.args.p.text (flat c.args.mem.now (c.args.p.at + 2) 2 0)) (c.split_rs-f.ensures ∙ ap (rs_of c.args.p.text) c.half_of.ensures) _ c.state.ensures c.shift_signed-n.ensures refl refl
+returns c = settled c.args.p c.args.regs.now _ 4 refl (omega arith) c.shift_signed-n.result (rs (ShiftSigned c.args.to)) _ (rs_of c.args.p.text (flat c.args.mem.now (c.args.p.at + 2) 2 0)) (c.split_rs-f.ensures ∙ ap (rs_of c.args.p.text) c.half_of.ensures) _ c.state.ensures c.shift_signed-n.ensures refl refl

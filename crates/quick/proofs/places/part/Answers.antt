@@ -8,4 +8,4 @@ returns-then-i-eq0 c = λ d. rw (eq-eqb _ _ c.if-i-eq0.true)
 
 pub returns : goal.returns
 unfolding part reg
-returns c = λ d. rw (ne_eqb _ _ c.if-i-eq0.false)
+returns c = λ d. rw (c.from.ensures, ne_eqb _ _ c.if-i-eq0.false)

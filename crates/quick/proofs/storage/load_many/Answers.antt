@@ -8,11 +8,11 @@ use Rattle.quick.proofs.storage.load_many.Goals as goal
 pub returns-in_default : goal.returns-in_default
 returns-in_default c = did_not c.args.p _ c.undone.ensures _ _ _ _ _
 
-pub returns-then-reach-n : goal.returns-then-reach-n
-returns-then-reach-n c = did_not c.args.p _ c.undone-then-reach-n.ensures _ _ _ _ _
+pub returns-then-s-n : goal.returns-then-s-n
+returns-then-s-n c = did_not c.args.p _ c.undone-then-s-n.ensures _ _ _ _ _
 
 pub fill_at-requires : goal.fill_at-requires
-fill_at-requires c = lies_room _ _ _ _ _ c.requires.1 c.in-At.is c.if-reach-n.false
+fill_at-requires c = lies_room _ _ _ _ _ c.requires c.in-Some.is c.if-s-n.false
 
 pub returns : goal.returns
-returns c = did_on c.args.p c.args.found (many_of c.args.p.text * 4) 4 (fills c.args.p.text c.args.p.code c.args.mem.now c.args.regs.now) c.args.regs.now _ _ c.in-At.i c.in-At.reach c.in-At.is (many_is c.args.p.text _ c.split_rs-f.ensures _ c.how_many-n.ensures.0 _ c.if-reach-n.false) (fills_is c.args.p.text _ c.split_rs-f.ensures _ c.how_many-n.ensures.0 c.args.mem.now c.args.regs.now c.in-At.i _ c.fill_at.ensures) refl
+returns c = did_on c.args.p c.args.found (many_of c.args.p.text * 4) 4 (fills c.args.p.text c.args.p.code c.args.mem.now c.args.regs.now) c.args.regs.now _ _ c.in-Some.s.at c.in-Some.s.reach c.in-Some.is (many_is c.args.p.text _ c.split_rs-f.ensures _ c.how_many-n.ensures.0 _ c.if-s-n.false) (fills_is c.args.p.text _ c.split_rs-f.ensures _ c.how_many-n.ensures.0 c.args.mem.now c.args.regs.now c.in-Some.s.at _ c.fill_at.ensures) refl

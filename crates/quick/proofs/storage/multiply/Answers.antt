@@ -10,13 +10,13 @@ pub returns-in_default : goal.returns-in_default
 returns-in_default c = pair_not c.args.p _ c.undone.ensures _ _ _ _ _ _ refl
 
 pub word_of-b-requires : goal.word_of-b-requires
-word_of-b-requires c = pair_room c.args.p c.args.found _ _ _ c.paired-place.ensures c.in-At.is _ c.requires.1
+word_of-b-requires c = pair_room c.args.p c.args.found _ _ _ c.paired.ensures c.in-Some.is _ c.requires
 
 pub returns-in_default-out : goal.returns-in_default-out
-returns-in_default-out c = pair_not c.args.p _ c.undone-in_default-out.ensures _ _ _ _ _ _ (out_stopped _ _ _ _ _ _ c.work-out.ensures c.in_default-out.is)
+returns-in_default-out c = pair_not c.args.p _ c.undone-in_default-out.ensures _ _ _ _ _ _ (out_stopped _ _ _ _ _ c.work-out.ensures c.in_default-out.is)
 
 pub overflow_add-result : goal.overflow_add-result
-overflow_add-result c = record { fits = omega (arith, place_fits c.args.p c.requires.0) }
+overflow_add-result c = record { fits = omega (arith, place_fits c.args.p) }
 
 pub returns : goal.returns
-returns c = pair_on c.args.p c.requires.0 c.args.found _ _ _ c.paired-place.ensures c.in-At.is Multiply c.args.mem.now c.args.regs.now _ _ c.word_of-b.ensures _ _ c.in-Done.is _ c.state.ensures c.work-out.ensures
+returns c = pair_on c.args.p c.args.found _ _ _ c.paired.ensures c.in-Some.is Multiply c.args.mem.now c.args.regs.now _ _ c.word_of-b.ensures _ _ c.in-Ok.is _ c.state.ensures c.work-out.ensures

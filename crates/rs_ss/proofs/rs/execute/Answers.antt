@@ -8,16 +8,16 @@ pub returns-in-StoreMultiple : goal.returns-in-StoreMultiple
 returns-in-StoreMultiple c = rw c.in-StoreMultiple.is c.store_multiple.ensures
 
 pub returns-in-ShiftLeft : goal.returns-in-ShiftLeft
-returns-in-ShiftLeft c = rw c.in-ShiftLeft.is (no_storage _ _ _ _ _ _ c.shift_left.ensures)
+returns-in-ShiftLeft c = rw c.in-ShiftLeft.is (no_storage _ _ _ _ _ _ c.shift_logical.ensures)
 
 pub returns-in-ShiftRight : goal.returns-in-ShiftRight
-returns-in-ShiftRight c = rw c.in-ShiftRight.is (no_storage _ _ _ _ _ _ c.shift_right.ensures)
+returns-in-ShiftRight c = rw c.in-ShiftRight.is (no_storage _ _ _ _ _ _ c.shift_logical-in-ShiftRight.ensures)
 
 pub returns-in-BranchHigh : goal.returns-in-BranchHigh
-returns-in-BranchHigh c = rw c.in-BranchHigh.is (no_storage _ _ _ _ _ _ c.branch_high.ensures)
+returns-in-BranchHigh c = rw c.in-BranchHigh.is (no_storage _ _ _ _ _ _ c.branch_index.ensures)
 
 pub returns-in-BranchLowEqual : goal.returns-in-BranchLowEqual
-returns-in-BranchLowEqual c = rw c.in-BranchLowEqual.is (no_storage _ _ _ _ _ _ c.branch_low_equal.ensures)
+returns-in-BranchLowEqual c = rw c.in-BranchLowEqual.is (no_storage _ _ _ _ _ _ c.branch_index-in-BranchLowEqual.ensures)
 
 pub returns-in-ShiftSigned : goal.returns-in-ShiftSigned
 returns-in-ShiftSigned c = rw c.in-ShiftSigned.is (no_storage _ _ _ _ _ _ c.shift_signed.ensures)

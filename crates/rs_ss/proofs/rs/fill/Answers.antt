@@ -13,22 +13,22 @@ pub shape_of-regs-in_default : goal.shape_of-regs-in_default
 shape_of-regs-in_default c = c.loop-left.invariant.1
 
 pub returns-in_default : goal.returns-in_default
-returns-in_default c = absurd (never_refused _ _ _ _ _ c.loop-left.invariant.2 c.loop-left.invariant.3 c.loop-left-test.true _ c.look_up-found.ensures _ _ c.in_default.is)
+returns-in_default c = absurd (never_refused _ _ _ _ _ c.loop-left.invariant.2 c.loop-left.invariant.3 c.loop-left-test.true _ c.look_up.ensures _ _ c.in_default.is)
 
 pub fill_at-requires : goal.fill_at-requires
-fill_at-requires c = piece_inside _ _ _ _ _ c.loop-left.invariant.2 c.loop-left.invariant.3 c.loop-left-test.true _ _ _ (sym c.look_up-found.ensures ∙ c.in-At.is) c.fewer_of-n.ensures
+fill_at-requires c = piece_inside _ _ _ _ _ c.loop-left.invariant.2 c.loop-left.invariant.3 c.loop-left-test.true _ _ _ (sym c.look_up.ensures ∙ c.in-Ok.is) c.fewer_of-n.ensures
 
 pub overflow_mul-n : goal.overflow_mul-n
-overflow_mul-n c = omega (arith, piece_small _ _ _ _ _ c.loop-left.invariant.2 c.loop-left.invariant.3 c.loop-left-test.true _ _ _ (sym c.look_up-found.ensures ∙ c.in-At.is) c.fewer_of-n.ensures)
+overflow_mul-n c = omega (arith, piece_small _ _ _ _ _ c.loop-left.invariant.2 c.loop-left.invariant.3 c.loop-left-test.true _ _ _ (sym c.look_up.ensures ∙ c.in-Ok.is) c.fewer_of-n.ensures)
 
 pub overflow_sub-left : goal.overflow_sub-left
-overflow_sub-left c = (piece _ _ _ _ _ c.loop-left.invariant.2 c.loop-left.invariant.3 c.loop-left-test.true _ _ _ (sym c.look_up-found.ensures ∙ c.in-At.is) c.fewer_of-n.ensures).1
+overflow_sub-left c = (piece _ _ _ _ _ c.loop-left.invariant.2 c.loop-left.invariant.3 c.loop-left-test.true _ _ _ (sym c.look_up.ensures ∙ c.in-Ok.is) c.fewer_of-n.ensures).1
 
 pub loop-left-smaller : goal.loop-left-smaller
-loop-left-smaller c = let p = piece _ _ _ _ _ c.loop-left.invariant.2 c.loop-left.invariant.3 c.loop-left-test.true _ _ _ (sym c.look_up-found.ensures ∙ c.in-At.is) c.fewer_of-n.ensures in less p.0 p.1
+loop-left-smaller c = let p = piece _ _ _ _ _ c.loop-left.invariant.2 c.loop-left.invariant.3 c.loop-left-test.true _ _ _ (sym c.look_up.ensures ∙ c.in-Ok.is) c.fewer_of-n.ensures in less p.0 p.1
 
 pub loop-left-preserved : goal.loop-left-preserved
-loop-left-preserved c = let e = sym c.look_up-found.ensures ∙ c.in-At.is in let p = piece _ _ _ _ _ c.loop-left.invariant.2 c.loop-left.invariant.3 c.loop-left-test.true _ _ _ e c.fewer_of-n.ensures in let o = piece_on _ _ _ _ _ c.loop-left.invariant.2 c.loop-left.invariant.3 c.loop-left-test.true _ _ _ e c.fewer_of-n.ensures in (rw (c.reg_past-r.ensures, c.past_of-a.ensures) (c.loop-left.invariant.0 ∙ fill_on _ _ _ _ _ e _ _ _ _ _ p.0 p.1 p.2 c.fill_at.ensures), c.fill_at.auto.regs ∙ c.loop-left.invariant.1, rw c.past_of-a.ensures o.0, rw c.past_of-a.ensures o.1)
+loop-left-preserved c = let e = sym c.look_up.ensures ∙ c.in-Ok.is in let p = piece _ _ _ _ _ c.loop-left.invariant.2 c.loop-left.invariant.3 c.loop-left-test.true _ _ _ e c.fewer_of-n.ensures in let o = piece_on _ _ _ _ _ c.loop-left.invariant.2 c.loop-left.invariant.3 c.loop-left-test.true _ _ _ e c.fewer_of-n.ensures in (rw (c.reg_past-r.ensures, c.past_of-a.ensures) (c.loop-left.invariant.0 ∙ fill_on _ _ _ _ _ e _ _ _ _ _ p.0 p.1 p.2 c.fill_at.ensures), c.fill_at.auto.regs ∙ c.loop-left.invariant.1, rw c.past_of-a.ensures o.0, rw c.past_of-a.ensures o.1)
 
 pub shape_of-regs : goal.shape_of-regs
 shape_of-regs c = c.loop-left.invariant.1

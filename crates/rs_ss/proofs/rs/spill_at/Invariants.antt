@@ -1,12 +1,11 @@
 use mathlib.Core.Path.{◌≡◌}
-use Prim.Native.Nat.{◌+◌, ◌*◌, ◌≤◌}
+use Prim.Native.Nat.{◌+◌, ◌*◌, ◌-◌, ◌≤◌}
 use lib.ListN.{length}
 use Rattle.rs_ss.specs.Multiple.{spilled_at}
 use Rattle.rs_ss.proofs.rs.spill_at.Given as goal
 
-abbrev pub invariant-loop-left : goal.invariant-loop-left
-invariant-loop-left l =
-    (spilled_at l.regs l.count l.first l.at l.initial.mem ≡ spilled_at l.regs l.left l.r l.a l.mem) × (length l.mem ≡ length l.initial.mem) × (l.a + l.left * 4 ≤ length l.mem)
-
-abbrev pub decreases-loop-left : goal.decreases-loop-left
-decreases-loop-left l = l.left
+abbrev pub invariant-loop : goal.invariant-loop
+invariant-loop l =
+    (spilled_at l.regs l.count l.first l.at l.initial.mem ≡ spilled_at l.regs (l.count - l.counter) l.r l.a l.mem)
+    × (length l.mem ≡ length l.initial.mem)
+    × (l.a + (l.count - l.counter) * 4 ≤ length l.mem)

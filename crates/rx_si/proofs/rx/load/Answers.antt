@@ -1,3 +1,4 @@
+use Rattle.std.proofs.lemmas.Result.{err_from_is_err_and}
 use Rattle.pages.specs.declared.Access.TheVariants.{Load}
 use Rattle.actions.proofs.Executed.{operand_off, operand_stop, operand_go, loaded, taken_done, taken_at_lem}
 use Rattle.fields.proofs.Widths.{room_of}
@@ -11,16 +12,16 @@ pub returns-then-is_off : goal.returns-then-is_off
 unfolding rx loading
 returns-then-is_off c = rw (← c.width_of-width.ensures, ← c.operand_address-at.ensures) (operand_off _ _ _ _ _ _ _ _ _ (off_is _ _ c.is_off.ensures c.if-is_off.true))
 
-pub look_operand-found-requires : goal.look_operand-found-requires
-look_operand-found-requires c = rw c.bytes_of.ensures.0 (aligned_fits c.width_of-width.result _ (on_is _ _ c.is_off.ensures c.if-is_off.false))
+pub look_operand-requires : goal.look_operand-requires
+look_operand-requires c = rw c.bytes_of.ensures.0 (aligned_fits c.width_of-width.result _ (on_is _ _ c.is_off.ensures c.if-is_off.false))
 
-pub returns-in_default : goal.returns-in_default
+pub returns-in_err-found : goal.returns-in_err-found
 unfolding rx loading
-returns-in_default c = rw (← c.width_of-width.ensures, ← c.operand_address-at.ensures) (operand_stop _ _ _ _ _ _ _ _ _ tt (on_is _ _ c.is_off.ensures c.if-is_off.false) _ (len_is _ _ _ _ _ _ _ c.look_operand-found.ensures c.bytes_of.ensures.0) _ _ _ (width_some c.width_of-width.result) c.refusal.ensures c.in_default.is)
+returns-in_err-found c = let p = err_from_is_err_and c.from_residual.result c.from_residual.ensures.1 in rw p.1 (rw (← c.width_of-width.ensures, ← c.operand_address-at.ensures) (operand_stop _ _ _ _ _ _ _ _ _ tt (on_is _ _ c.is_off.ensures c.if-is_off.false) _ (len_is _ _ _ _ _ _ _ c.look_operand.ensures c.bytes_of.ensures.0) _ _ (width_some c.width_of-width.result) p.2 c.in_err-found.was))
 
 pub take-result-requires : goal.take-result-requires
-take-result-requires c = room_of c.width_of-width.result _ c.width_of-width.ensures _ _ (found_inside (c.args.mem.now) _ Load _ _ _ _ _ (len_is _ _ _ _ _ _ _ c.look_operand-found.ensures c.bytes_of.ensures.0) c.in-At.is (width_some c.width_of-width.result) (aligned_fits c.width_of-width.result _ (on_is _ _ c.is_off.ensures c.if-is_off.false)))
+take-result-requires c = room_of c.width_of-width.result _ c.width_of-width.ensures _ _ (found_inside (c.args.mem.now) _ Load _ _ _ _ _ (len_is _ _ _ _ _ _ _ c.look_operand.ensures c.bytes_of.ensures.0) c.in_ok-found.was (width_some c.width_of-width.result) (aligned_fits c.width_of-width.result _ (on_is _ _ c.is_off.ensures c.if-is_off.false)))
 
 pub returns : goal.returns
 unfolding rx loading
-returns c = rw (← c.width_of-width.ensures, ← c.operand_address-at.ensures) (operand_go _ _ _ _ _ _ _ _ _ tt (on_is _ _ c.is_off.ensures c.if-is_off.false) _ (len_is _ _ _ _ _ _ _ c.look_operand-found.ensures c.bytes_of.ensures.0) _ _ _ _ _ _ c.in-At.is (found_note (c.args.mem.now) _ Load _ _ _ _ _ (len_is _ _ _ _ _ _ _ c.look_operand-found.ensures c.bytes_of.ensures.0) c.in-At.is (width_some c.width_of-width.result) (aligned_fits c.width_of-width.result _ (on_is _ _ c.is_off.ensures c.if-is_off.false)) _ c.note.ensures) (loaded _ _ _ _ _ _ _ (taken_done _ _ _ _ _ _ _ _ _ _ _ (ap bytes_of c.width_of-width.ensures) (taken_at_lem _ c.width_of-width.result _ _ _ _ (c.args.mem.now) _ _ c.width_of-width.ensures c.take-result.ensures (found_read (c.args.mem.now) _ Load _ _ _ _ _ (len_is _ _ _ _ _ _ _ c.look_operand-found.ensures c.bytes_of.ensures.0) c.in-At.is (width_some c.width_of-width.result) (aligned_fits c.width_of-width.result _ (on_is _ _ c.is_off.ensures c.if-is_off.false)) _ (found_note (c.args.mem.now) _ Load _ _ _ _ _ (len_is _ _ _ _ _ _ _ c.look_operand-found.ensures c.bytes_of.ensures.0) c.in-At.is (width_some c.width_of-width.result) (aligned_fits c.width_of-width.result _ (on_is _ _ c.is_off.ensures c.if-is_off.false)) _ c.note.ensures))) c.reg.ensures c.put_reg.ensures c.ahead_of-next.ensures)))
+returns c = rw (← c.width_of-width.ensures, ← c.operand_address-at.ensures) (operand_go _ _ _ _ _ _ _ _ _ tt (on_is _ _ c.is_off.ensures c.if-is_off.false) _ (len_is _ _ _ _ _ _ _ c.look_operand.ensures c.bytes_of.ensures.0) _ _ _ _ _ _ c.in_ok-found.was (found_note (c.args.mem.now) _ Load _ _ _ _ _ (len_is _ _ _ _ _ _ _ c.look_operand.ensures c.bytes_of.ensures.0) c.in_ok-found.was (width_some c.width_of-width.result) (aligned_fits c.width_of-width.result _ (on_is _ _ c.is_off.ensures c.if-is_off.false)) _ c.mark.ensures) (loaded _ _ _ _ _ _ _ (taken_done _ _ _ _ _ _ _ _ _ _ _ (ap bytes_of c.width_of-width.ensures) (taken_at_lem _ c.width_of-width.result _ _ _ _ (c.args.mem.now) _ _ c.width_of-width.ensures c.take-result.ensures (found_read (c.args.mem.now) _ Load _ _ _ _ _ (len_is _ _ _ _ _ _ _ c.look_operand.ensures c.bytes_of.ensures.0) c.in_ok-found.was (width_some c.width_of-width.result) (aligned_fits c.width_of-width.result _ (on_is _ _ c.is_off.ensures c.if-is_off.false)) _ (found_note (c.args.mem.now) _ Load _ _ _ _ _ (len_is _ _ _ _ _ _ _ c.look_operand.ensures c.bytes_of.ensures.0) c.in_ok-found.was (width_some c.width_of-width.result) (aligned_fits c.width_of-width.result _ (on_is _ _ c.is_off.ensures c.if-is_off.false)) _ c.mark.ensures))) c.reg.ensures c.put_reg.ensures c.ahead_of-next.ensures)))

@@ -1,3 +1,4 @@
+use Rattle.std.proofs.lemmas.Result.{err_from_is_err_and}
 use Rattle.rx_si.proofs.PairOperand.{pair_odd, pair_off, pair_unfound, word_room, pair_done, pair_refused}
 use Rattle.rx_si.proofs.rx.pair.Goals as goal
 
@@ -7,14 +8,14 @@ returns-then-f-ne0 c = search pair_odd
 pub returns-then-at-ne0 : goal.returns-then-at-ne0
 returns-then-at-ne0 c = search pair_off
 
-pub returns-in_default : goal.returns-in_default
-returns-in_default c = pair_unfound _ _ _ _ _ _ c.if-f-ne0.false _ c.operand_address-at.ensures c.if-at-ne0.false _ c.look_operand-found.ensures _ _ _ c.refusal.ensures c.in_default.is
+pub returns-in_err-found : goal.returns-in_err-found
+returns-in_err-found c = let p = err_from_is_err_and c.from_residual.result c.from_residual.ensures.1 in rw p.1 (pair_unfound _ _ _ _ _ _ c.if-f-ne0.false _ c.operand_address-at.ensures c.if-at-ne0.false _ c.look_operand.ensures _ _ p.2 c.in_err-found.was)
 
 pub word_of-requires : goal.word_of-requires
-word_of-requires c = word_room c.args.mem.now _ _ _ _ _ c.if-at-ne0.false c.look_operand-found.ensures c.in-At.is
+word_of-requires c = word_room c.args.mem.now _ _ _ _ _ c.if-at-ne0.false c.look_operand.ensures c.in_ok-found.was
 
-pub returns-in-Done : goal.returns-in-Done
-returns-in-Done c = pair_done _ _ _ _ _ _ c.if-f-ne0.false _ c.operand_address-at.ensures c.if-at-ne0.false _ c.look_operand-found.ensures _ _ c.in-At.is _ c.word_of.ensures _ _ c.work-out.ensures _ _ c.in-Done.is c.note.ensures
+pub returns-in_err-now : goal.returns-in_err-now
+returns-in_err-now c = let p = err_from_is_err_and c.from_residual-in_err-now.result c.from_residual-in_err-now.ensures.1 in rw (p.1, p.2) (pair_refused _ _ _ _ _ _ c.if-f-ne0.false _ c.operand_address-at.ensures c.if-at-ne0.false _ c.look_operand.ensures _ _ c.in_ok-found.was _ c.word_of.ensures _ _ c.work.ensures _ c.in_err-now.was)
 
-pub returns-in_default-out : goal.returns-in_default-out
-returns-in_default-out c = pair_refused _ _ _ _ _ _ c.if-f-ne0.false _ c.operand_address-at.ensures c.if-at-ne0.false _ c.look_operand-found.ensures _ _ c.in-At.is _ c.word_of.ensures _ _ c.work-out.ensures _ _ c.in_default-out.is
+pub returns : goal.returns
+returns c = pair_done _ _ _ _ _ _ c.if-f-ne0.false _ c.operand_address-at.ensures c.if-at-ne0.false _ c.look_operand.ensures _ _ c.in_ok-found.was _ c.word_of.ensures _ _ c.work.ensures _ _ c.in_ok-now.was c.mark.ensures

@@ -23,4 +23,4 @@ returns-in-HalfWith c = rw (c.in-HalfWith.is, ← c.half_of.ensures, ← c.widen
 
 pub returns-in-ByteInserted : goal.returns-in-ByteInserted
 unfolding taken
-returns-in-ByteInserted c = rw (c.in-ByteInserted.is, ← (c.byte_of.ensures ∙ flat_byte (c.args.mem.now) c.args.at))
+returns-in-ByteInserted c = rw (c.in-ByteInserted.is, c.from.ensures, ← (c.byte_of.ensures ∙ flat_byte (c.args.mem.now) c.args.at))

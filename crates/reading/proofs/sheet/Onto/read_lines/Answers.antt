@@ -11,23 +11,28 @@ use Rattle.reading.proofs.sheet.Onto.read_lines.Goals as goal
 pub returns-then-text-rest-clause-reads : goal.returns-then-text-rest-clause-reads
 returns-then-text-rest-clause-reads c =
     let h : 0 < length c.loop-rest.rest.now = grind (arith, nat_tests) in
-    read_unended _ c.loop-rest.rest.now c.loop-rest.line c.loop-rest.p c.loop-rest.self c.loop-rest.invariant.0 _ c.front-text.ensures h c.if-text-rest.true
+    read_unended _ c.loop-rest.rest.now c.loop-rest.line c.loop-rest.p c.loop-rest.self c.loop-rest.invariant.0
+    _ c.front-text.ensures h c.if-text-rest.true
 
 pub returns-in_err-p-clause-reads : goal.returns-in_err-p-clause-reads
 returns-in_err-p-clause-reads c =
     let k : c.take_text.result ≡ None = grind (arith, common_steps) in
     let e : c.from_residual.result ≡ Err (record { line = c.loop-rest.line }) = grind (arith, common_steps) in
-    rw e (read_off_lem _ c.loop-rest.rest.now c.loop-rest.line c.loop-rest.p c.loop-rest.self c.loop-rest.invariant.0 _ c.front-text.ensures c.if-text-rest.false _ refl _ c.take_text.new.self c.take_text.ensures.steps k)
+    rw e (read_off_lem _ c.loop-rest.rest.now c.loop-rest.line c.loop-rest.p c.loop-rest.self c.loop-rest.invariant.0
+    _ c.front-text.ensures c.if-text-rest.false _ refl _ c.take_text.new.self c.take_text.ensures.steps k)
 
 pub loop-rest-smaller : goal.loop-rest-smaller
-loop-rest-smaller c = read_shorter _ c.loop-rest.rest.now c.loop-rest.line c.loop-rest.p c.loop-rest.self c.loop-rest.invariant.0 _ c.front-text.ensures c.if-text-rest.false _ c.back-rest.ensures
+loop-rest-smaller c = read_shorter _ c.loop-rest.rest.now c.loop-rest.line c.loop-rest.p c.loop-rest.self c.loop-rest.invariant.0
+    _ c.front-text.ensures c.if-text-rest.false _ c.back-rest.ensures
 
 pub loop-rest-preserved : goal.loop-rest-preserved
 loop-rest-preserved c =
     let k : c.take_text.result ≡ Some c.in_ok-p.p = grind (arith, common_steps) in
     let s : length c.back-rest.result.now < length c.loop-rest.rest.now =
-    read_shorter _ c.loop-rest.rest.now c.loop-rest.line c.loop-rest.p c.loop-rest.self c.loop-rest.invariant.0 _ c.front-text.ensures c.if-text-rest.false _ c.back-rest.ensures in (
-      read_turn _ c.loop-rest.rest.now c.loop-rest.line c.loop-rest.p c.loop-rest.self c.loop-rest.invariant.0 _ c.front-text.ensures c.if-text-rest.false _ c.back-rest.ensures _ c.take_text.new.self c.take_text.ensures.steps _ k,
+    read_shorter _ c.loop-rest.rest.now c.loop-rest.line c.loop-rest.p c.loop-rest.self c.loop-rest.invariant.0
+    _ c.front-text.ensures c.if-text-rest.false _ c.back-rest.ensures in (
+      read_turn _ c.loop-rest.rest.now c.loop-rest.line c.loop-rest.p c.loop-rest.self c.loop-rest.invariant.0
+          _ c.front-text.ensures c.if-text-rest.false _ c.back-rest.ensures _ c.take_text.new.self c.take_text.ensures.steps _ k,
       omega arith,
       same_on _ _ _ c.loop-rest.invariant.2 c.take_text.ensures.same,
     )

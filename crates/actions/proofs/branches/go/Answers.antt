@@ -1,7 +1,0 @@
-use Rattle.actions.proofs.branches.go.Goals as goal
-
-pub returns-then-goes : goal.returns-then-goes
-returns-then-goes c = rw c.if-goes.true
-
-pub returns : goal.returns
-returns c = rw c.if-goes.false

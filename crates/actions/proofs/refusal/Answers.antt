@@ -1,4 +1,0 @@
-use Rattle.actions.proofs.refusal.Goals as goal
-
-pub returns-in-Refused : goal.returns-in-Refused
-returns-in-Refused c = rw (c.in-Refused.is, c.number_of.ensures)

@@ -1,4 +1,0 @@
-use Rattle.engine.proofs.formats.stop_of.Goals as goal
-
-pub returns-in-Refused : goal.returns-in-Refused
-returns-in-Refused c = rw (c.in-Refused.is, c.number_of.ensures)

@@ -1,5 +1,0 @@
-use Rattle.quick.proofs.Answered.{field_at}
-use Rattle.quick.proofs.places.rs_store.Goals as goal
-
-pub returns : goal.returns
-returns c = λ d. field_at _ _ _ _ _ _ _ (c.address-a.ensures d) c.field.ensures
