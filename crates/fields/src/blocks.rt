@@ -176,8 +176,7 @@ pub fn compare_flat(mem: &[u8], first: usize, second: usize, len: u32) -> u32
     compare_on(mem, a, b, left)
 }
 
-// 0 equal, 1 first low, 2 first high. (As in arithmetic, which this crate does not stand on. The bytes below are cast: with `from` their
-// answers did not close.)
+// 0 equal, 1 first low, 2 first high. (As in arithmetic, which this crate does not stand on.)
 fn order_of(x: u32, y: u32) -> u32
     ensures { result ≡ compare_bits x y }
 {
