@@ -10,6 +10,7 @@ use Rattle.machine.specs.Run.{run}
 use Rattle.machine.specs.Step.{step}
 use Rattle.machine.specs.Machine.{given, outcome, proper, turned_away, outcome_of, ops_for, step_outcome, run_outcome}
 use Rattle.actions.specs.declared.Now.{Now}
+use Rattle.actions.specs.declared.Stop.{Stop}
 use Rattle.std.specs.Prelude.{Ok, Err}
 use Rattle.actions.specs.Answered.{Out, cpu_of, told, doing}
 use Rattle.engine.specs.declared.Ran.{Ran}
@@ -40,7 +41,7 @@ module _ (mem map regs : List ℕ) (pc code mask : ℕ) where
   step_away b r eb p er = rw (sym eb ∙ p) (ap (λ (x : Reply). outcome x mem map regs) er)
 
   module _ (budget : ℕ) where
-    pub run_fine : (b : Bool) (q : Reply) (ran : Ran) (mem' map' regs' : List ℕ) → b ≡ proper (given mem map regs pc code mask) → b ≡ true → budget ≤ 65535
+    pub run_fine : (b : Bool) (q : Reply) (ran : Ran Stop) (mem' map' regs' : List ℕ) → b ≡ proper (given mem map regs pc code mask) → b ≡ true → budget ≤ 65535
         → ran_as ran regs' (framed_of mem' map')
         ≡ run ops_for step budget (cpu_of regs (record { pc = pc; code = code; mask = mask })) (framed_of mem map)
         → q ≡ ran_reply ran

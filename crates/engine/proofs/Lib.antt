@@ -4,5 +4,6 @@ mod ReachedText
 mod Runs
 mod Entries
 mod Only
+mod AnyNumber
 mod Windows
 mod Spins

@@ -90,16 +90,18 @@ fetched (Ok t) s = finished t s
 fetched (Err k) s = refused (number k) (place k) s
 
 -- a run's number and place: those of what stopped it, or 7 where its budget is spent
+abbrev pub of_stopped : {S : Type 0} → (S → ℕ) → ℕ → Option S → ℕ
+of_stopped f spent None = spent
+of_stopped f spent (Some k) = f k
+
 abbrev pub ran_number : Option Stop → ℕ
-ran_number None = 7
-ran_number (Some k) = number k
+ran_number o = of_stopped number 7 o
 
 abbrev pub ran_place : Option Stop → ℕ
-ran_place None = 0
-ran_place (Some k) = place k
+ran_place o = of_stopped place 0 o
 
 -- a run's answer and what the lists hold, as the definitions' result
-abbrev pub ran_as : Ran → List ℕ → Framed → Result Cpu Framed
+abbrev pub ran_as : Ran Stop → List ℕ → Framed → Result Cpu Framed
 ran_as r regs s =
     record { stop = ran_number r.stopped; place = ran_place r.stopped; count = r.count; cpu = cpu_of regs r.now; held = s }
 
@@ -120,13 +122,20 @@ pub record Went (c : Now) (budget : ℕ) (regs mem map regs' mem' map' : List �
 abbrev pub replied : ℕ → ℕ → ℕ → Now → Reply
 replied k a n c = record { number = k; place = a; count = n; pc = c.pc; code = c.code; mask = c.mask }
 
--- the reply to a single step from the scalars c
-abbrev pub step_reply : Now → Out → Reply
-step_reply c (Ok n) = replied 0 0 1 n
-step_reply c (Err k) = replied (number k) (place k) 0 c
+-- the reply to a single step from the scalars c, and to a run, by the number and the place of what stopped it
+abbrev pub step_reply_by : {S : Type 0} → (S → ℕ) → (S → ℕ) → Now → rust.Result Now S → Reply
+step_reply_by k a c (Ok n) = replied 0 0 1 n
+step_reply_by k a c (Err e) = replied (k e) (a e) 0 c
 
-abbrev pub ran_reply : Ran → Reply
-ran_reply r = replied (ran_number r.stopped) (ran_place r.stopped) r.count r.now
+abbrev pub ran_reply_by : {S : Type 0} → (S → ℕ) → (S → ℕ) → Ran S → Reply
+ran_reply_by k a r = replied (of_stopped k 7 r.stopped) (of_stopped a 0 r.stopped) r.count r.now
+
+-- the same of a refusal
+abbrev pub step_reply : Now → Out → Reply
+step_reply c out = step_reply_by number place c out
+
+abbrev pub ran_reply : Ran Stop → Reply
+ran_reply r = ran_reply_by number place r
 
 -- the word of a page with a window: accessed, and the look-up of the window's first byte, found at b, reaches its instructions' last bytes
 pub record Held (first len b w size : ℕ) : Type 0 where

@@ -23,8 +23,8 @@ pub struct Text {
 
 // How a run ended: what stopped it, or nothing but its budget; its completed steps, and the state's scalars.
 #[derive(Clone, Copy, Debug, PartialEq, Eq)]
-pub struct Ran {
-    pub stopped: Option<Stop>,
+pub struct Ran<S> {
+    pub stopped: Option<S>,
     pub count: u32,
     pub now: Now,
 }

@@ -37,7 +37,13 @@ fn hurry(regs: &mut [u32], mem: &mut [u8], map: &mut [u16], c: Now, budget: u32)
 }
 
 // At most a budget of steps, up to the first refusal: the quick way as far as it goes, then one plain step, and again.
-pub fn run_steps(regs: &mut [u32], mem: &mut [u8], map: &mut [u16], c: Now, budget: u32) -> Ran
+pub fn run_steps(
+    regs: &mut [u32],
+    mem: &mut [u8],
+    map: &mut [u16],
+    c: Now,
+    budget: u32,
+) -> Ran<Stop>
     ensures { (ran_as result regs.new (framed_of mem.new map.new) ≡ run ops_for step budget (cpu_of regs.old c) (framed_of mem.old map.old)) × (result.count ≤ budget) }
 {
     let mut at = c;
