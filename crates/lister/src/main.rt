@@ -112,7 +112,5 @@ fn answer(rt: &HostRuntime) -> Result<(), Trouble> {
 }
 
 fn main(rt: HostRuntime) {
-    if let Err(trouble) = answer(&rt) {
-        streams::tell(&rt, "lister", "request", 1, trouble);
-    }
+    streams::tell(&rt, b"lister", b"request", 1, answer(&rt));
 }

@@ -43,7 +43,9 @@ fn skip(rt: &HostRuntime, n: usize) -> Result<(), Trouble> {
 }
 
 fn write_text(rt: &HostRuntime, text: &[u8]) -> Result<(), Trouble> {
-    rt.println(text.len()).map_err(|_| Trouble::Unwritten)?;
+    // The length, its line's end and the text go out by themselves, so that an output that is full keeps as much of them as fits.
+    rt.print(text.len()).map_err(|_| Trouble::Unwritten)?;
+    streams::write(rt, b"\n")?;
     streams::write(rt, text)
 }
 
@@ -72,5 +74,5 @@ fn answer_next(rt: &HostRuntime) -> Result<bool, Trouble> {
 }
 
 fn main(rt: HostRuntime) {
-    streams::each(&rt, "many", "sheet", answer_next);
+    streams::each(&rt, b"many", b"sheet", answer_next);
 }

@@ -9,8 +9,8 @@
 //     number of pieces of memory, 2 bytes
 //     pieces, each within memory: address, 4 bytes; length, 1 byte; the bytes
 //
-// What no piece names is zero.
-ghost use Rattle.std.specs.Prelude.{◌≤◌, length};
+// What no piece names is zero. Between the kind with the lengths, 8 bytes, and the pieces stand at most 1,346 bytes.
+ghost use Rattle.std.specs.Prelude.{◌≤◌};
 
 use streams::Trouble;
 
@@ -80,20 +80,6 @@ pub struct Scalars {
     pub pieces: u16,
 }
 
-fn take_word(rt: &HostRuntime) -> Result<u32, Trouble> {
-    Ok(u32::from_be_bytes(streams::next_bytes(rt)?))
-}
-
-pub fn take_scalars(rt: &HostRuntime) -> Result<Scalars, Trouble> {
-    Ok(Scalars {
-        pc: take_word(rt)?,
-        code: take_word(rt)?,
-        mask: take_word(rt)?,
-        budget: take_word(rt)?,
-        pieces: u16::from_be_bytes(streams::next_bytes(rt)?),
-    })
-}
-
 // A number that N bytes make.
 pub trait Number<const N: usize>: Drop {
     fn of(bytes: [u8; N]) -> Self;
@@ -111,26 +97,49 @@ impl Number<4> for u32 {
     }
 }
 
-// A list of numbers.
-pub fn take_list<const N: usize, T: Number<N>>(
-    rt: &HostRuntime,
-    list: &mut [T],
-) -> Result<(), Trouble>
-    requires fits { length list.old ≤ 600 }
-    requires small { N ≤ 4 }
+// The first number, and the bytes behind it.
+fn first_of<const N: usize, T: Number<N>>(bytes: &[u8]) -> Result<(T, &[u8]), Trouble>
+    requires { N ≤ 4 }
 {
-    let mut room = [[0; N]; 600];
-    let bytes = &mut room[..list.len()];
-    streams::fill_within(rt, bytes.as_flattened_mut())?;
-    for (item, chunk) in list.iter_mut().zip(bytes) {
-        *item = T::of(*chunk);
-    }
-    Ok(())
+    let (first, behind) = bytes.split_first_chunk::<N>().ok_or(Trouble::Cut)?;
+    Ok((T::of(*first), behind))
 }
 
+// A list of numbers from the first bytes; the bytes behind it.
+pub fn list_of<'a, const N: usize, T: Number<N>>(
+    list: &mut [T],
+    bytes: &'a [u8],
+) -> Result<&'a [u8], Trouble>
+    requires { N ≤ 4 }
+{
+    let mut rest = bytes;
+    for item in list {
+        let (number, behind) = first_of(rest)?;
+        *item = number;
+        rest = behind;
+    }
+    Ok(rest)
+}
+
+pub fn scalars_of(bytes: &[u8]) -> Result<Scalars, Trouble> {
+    let (pc, rest) = first_of(bytes)?;
+    let (code, rest) = first_of(rest)?;
+    let (mask, rest) = first_of(rest)?;
+    let (budget, rest) = first_of(rest)?;
+    let (pieces, _) = first_of(rest)?;
+    Ok(Scalars {
+        pc,
+        code,
+        mask,
+        budget,
+        pieces,
+    })
+}
+
+// A piece's head comes in one read.
 fn take_piece(rt: &HostRuntime, mem: &mut [u8]) -> Result<(), Trouble> {
-    let from = take_word(rt)? as usize;
-    let [len] = streams::next_bytes::<1>(rt)?;
+    let [a1, a2, a3, a4, len] = streams::next_bytes::<5>(rt)?;
+    let from = u32::from_be_bytes([a1, a2, a3, a4]) as usize;
     let piece = mem
         .get_mut(from..from + usize::from(len))
         .ok_or(Trouble::Malformed)?;

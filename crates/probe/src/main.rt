@@ -80,9 +80,13 @@ fn answer(rt: &HostRuntime, head: Head) -> Result<(), Trouble> {
     let mem = &mut mem[..head.mem];
     let map = &mut map[..head.map];
     let regs = &mut regs[..head.regs];
-    case::take_list(rt, map)?;
-    case::take_list(rt, regs)?;
-    let scalars = case::take_scalars(rt)?;
+    // All that stands before the pieces comes in one read.
+    let mut room = [0; 1346];
+    let bytes = &mut room[..2 * head.map + 4 * head.regs + 18];
+    streams::fill_within(rt, bytes)?;
+    let rest = case::list_of(map, bytes)?;
+    let rest = case::list_of(regs, rest)?;
+    let scalars = case::scalars_of(rest)?;
     finish(rt, mem, map, regs, head.kind, scalars)
 }
 
@@ -96,5 +100,5 @@ fn answer_next(rt: &HostRuntime) -> Result<bool, Trouble> {
 }
 
 fn main(rt: HostRuntime) {
-    streams::each(&rt, "probe", "case", answer_next);
+    streams::each(&rt, b"probe", b"case", answer_next);
 }
