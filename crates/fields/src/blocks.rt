@@ -22,8 +22,12 @@ fn move_on(mem: &mut [u8], to: usize, from: usize, len: u32)
     requires { (to + len ≤ length mem.old) × (from + len ≤ length mem.old) }
     ensures { mem.new ≡ flat_move mem.old to from len }
 {
-    for i in 0..len as usize {
-        mem[to + i] = mem[from + i];
+    let mut a = to;
+    let mut b = from;
+    for _ in 0..len {
+        mem[a] = mem[b];
+        a += 1;
+        b += 1;
     }
 }
 
