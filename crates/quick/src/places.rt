@@ -1,6 +1,6 @@
 // Where an operand is: its address, and its look-up in a page that has its marks. (`Sized` stays a premise: arrays in the slices' place would
 // ask more of whom calls the rows.)
-ghost use Rattle.std.specs.Prelude.{◌≡◌, ◌<◌, ◌≤◌, ◌+◌, length};
+ghost use Rattle.std.specs.Prelude.{◌≡◌, ◌<◌, ◌≤◌, ◌+◌, ◌%◌, eqb, length};
 ghost use Rattle.actions.specs.declared.Now as scalars;
 ghost use Rattle.actions.specs.Answered.{cpu_of};
 ghost use Rattle.machine.specs.Cpu as def;
@@ -31,6 +31,14 @@ pub fn address(regs: &[u32], mem: &[u8], x: u16, at: usize) -> u32
     ((u64::from(index) + u64::from(base) + u64::from(h % 4096)) % 16777216) as u32
 }
 
+// Whether an address is on a boundary of n bytes.
+fn is_on(a: u32, n: u32) -> bool
+    requires { 0 < n }
+    ensures { result ≡ eqb (a % n) 0 }
+{
+    a % n == 0
+}
+
 // The look-up of the operand of an instruction at a place, on a boundary of n bytes; x is its first halfword, or 0 where the format has no
 // index.
 pub fn operand(
@@ -46,7 +54,7 @@ pub fn operand(
     ensures { (c : scalars.Now) → FieldLook result map.now (length mem.now) access n (address_at regs.now c mem.now x (at + 2)) }
 {
     let a = address(regs, mem, x, at + 2);
-    if a % n != 0 {
+    if !is_on(a, n) {
         return None;
     }
     lookup::look_marked(map, mem.len(), access, a)
