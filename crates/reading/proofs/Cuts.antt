@@ -1,16 +1,17 @@
 -- A text cut at its marks: from an index on, at the first mark, and how many marks there are.
-use mathlib.Core.Path.{◌≡◌, refl}
+use mathlib.Core.Path.{◌≡◌, refl, ◌∙◌}
 use mathlib.Core.Bool.{Bool, true, false, cond}
 use mathlib.Core.List.{List, [], ◌∷◌}
-use Prim.Native.Nat.{ℕ, suc, ◌+◌, ◌≤◌, ◌<◌}
+use Prim.Native.Nat.{ℕ, suc, ◌+◌, ◌-◌, ◌≤◌, ◌<◌}
 use native.Mathlib.Omega.{arith}
 use lib.Dec.{eqb}
-use lib.ListN.{length, drop}
+use lib.ListN.{length, take, drop, length-drop}
+use lib.Seq.{length-take-le, take_all}
 use Rattle.std.specs.List.{position, position_or_len}
 use Rattle.std.specs.Option.{unwrap_or}
 use Rattle.std.proofs.lemmas.List.Recursion.{is_position_or_len}
 use Rattle.words.specs.Pick.{pick}
-use Rattle.reading.specs.Cut.{span, after, count}
+use Rattle.reading.specs.Cut.{span, before, after, count}
 
 -- ---- the first mark
 pub span_within : (mark : ℕ) (bs : List ℕ) → span mark bs ≤ length bs
@@ -35,6 +36,21 @@ find_is mark s n e =
     let f : span mark s ≡ position_or_len (λ b. eqb b mark) s = span_first mark s in
     let h : span mark s ≤ length s = span_within mark s in
     grind arith
+
+-- ---- what stands behind the first mark, by the length of what stands before it
+module _ (mark : ℕ) (s text : List ℕ) (cut : text ≡ before mark s) (e : length text ≡ length s → ⊥) where
+  as_long : length text ≡ span mark s
+  unfolding before
+  as_long = rw cut (length-take-le (span mark s) s (span_within mark s))
+
+  pub behind_fits : length text + 1 ≤ length s
+  behind_fits = omega (arith, as_long, span_within mark s, e)
+
+  pub behind_is : take (length s - (length text + 1)) (drop (length text + 1) s) ≡ after mark s
+  unfolding after
+  behind_is =
+      take_all (length s - (length text + 1)) (drop (length text + 1) s) (omega (arith, length-drop (length text + 1) s))
+      ∙ rw as_long
 
 -- ---- marks that are counted
 pub count_none : (mark : ℕ) (bs : List ℕ) → length bs ≤ span mark bs → count mark bs ≡ 0

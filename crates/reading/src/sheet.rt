@@ -4,7 +4,7 @@ ghost use Rattle.reading.specs.Cut.{count};
 ghost use Rattle.reading.specs.Line.{line_of};
 ghost use Rattle.reading.specs.Within.{as_line, HexBehind, SameLent, start_of, state_of, stepped, as_stepped, as_left, read_lines};
 
-use crate::cut::{back, front};
+use crate::cut::front;
 use crate::line::{Line, read_line};
 use crate::store::{give, put, put_bytes};
 use crate::{BadLine, Start};
@@ -110,7 +110,8 @@ impl Onto<'_> {
                 return Err(BadLine { line });
             }
             p = self.take_text(text, p).ok_or(BadLine { line })?;
-            rest = back(rest, b'\n');
+            // Not `back`, which would look for the line end again.
+            rest = &rest[text.len() + 1..];
             line += 1;
         }
         if p.stage == Stage::Complete {

@@ -5,6 +5,7 @@ use Rattle.std.proofs.Common.{arith, Some, None, Err}
 use Rattle.std.proofs.lemmas.Grind.{common_steps}
 use Rattle.std.proofs.lemmas.Bool.Decides.{nat_tests}
 use Rattle.reading.specs.Within.{stage_number}
+use Rattle.reading.proofs.Cuts.{behind_fits, behind_is}
 use Rattle.reading.proofs.ReadLines.{same_on, read_good, read_missing, read_unended, read_off_lem, read_shorter, read_turn}
 use Rattle.reading.proofs.sheet.Onto.read_lines.Goals as goal
 
@@ -21,19 +22,26 @@ returns-in_err-p-clause-reads c =
     rw e (read_off_lem _ c.loop-rest.rest.now c.loop-rest.line c.loop-rest.p c.loop-rest.self c.loop-rest.invariant.0
     _ c.front-text.ensures c.if-text-rest.false _ refl _ c.take_text.new.self c.take_text.ensures.steps k)
 
+pub slice_bounds-rest-start : goal.slice_bounds-rest-start
+slice_bounds-rest-start c = behind_fits 10 _ _ c.front-text.ensures c.if-text-rest.false
+
+pub slice_bounds-rest-count : goal.slice_bounds-rest-count
+slice_bounds-rest-count c = behind_fits 10 _ _ c.front-text.ensures c.if-text-rest.false
+
 pub loop-rest-smaller : goal.loop-rest-smaller
 loop-rest-smaller c = read_shorter _ c.loop-rest.rest.now c.loop-rest.line c.loop-rest.p c.loop-rest.self c.loop-rest.invariant.0
-    _ c.front-text.ensures c.if-text-rest.false _ c.back-rest.ensures
+    _ c.front-text.ensures c.if-text-rest.false _ (behind_is 10 _ _ c.front-text.ensures c.if-text-rest.false)
 
 pub loop-rest-preserved : goal.loop-rest-preserved
 loop-rest-preserved c =
     let k : c.take_text.result ≡ Some c.in_ok-p.p = grind (arith, common_steps) in
-    let s : length c.back-rest.result.now < length c.loop-rest.rest.now =
+    let b = behind_is 10 _ _ c.front-text.ensures c.if-text-rest.false in
+    let s =
     read_shorter _ c.loop-rest.rest.now c.loop-rest.line c.loop-rest.p c.loop-rest.self c.loop-rest.invariant.0
-    _ c.front-text.ensures c.if-text-rest.false _ c.back-rest.ensures in (
+    _ c.front-text.ensures c.if-text-rest.false _ b in (
       read_turn _ c.loop-rest.rest.now c.loop-rest.line c.loop-rest.p c.loop-rest.self c.loop-rest.invariant.0
-          _ c.front-text.ensures c.if-text-rest.false _ c.back-rest.ensures _ c.take_text.new.self c.take_text.ensures.steps _ k,
-      omega arith,
+          _ c.front-text.ensures c.if-text-rest.false _ b _ c.take_text.new.self c.take_text.ensures.steps _ k,
+      omega (arith, s),
       same_on _ _ _ c.loop-rest.invariant.2 c.take_text.ensures.same,
     )
 
