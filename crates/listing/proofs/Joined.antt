@@ -22,7 +22,7 @@ use Rattle.printing.specs.Digits.{hex_of, decimal_of}
 use Rattle.printing.specs.Lines.{field, LF}
 use Rattle.printing.specs.declared.writing.Writer.{Writer}
 use Rattle.printing.specs.Writing.{Wrote}
-use Rattle.printing.proofs.WrittenText.{after, also}
+use Rattle.printing.proofs.WrittenText.{after, also_wrote}
 use Rattle.lines.specs.Line.{line, based, indexed, hex_bytes, quoted, comma, rr_text, rx_text, rs_text, si_text, ss_text}
 use Rattle.lines.specs.Line.{half_at, operands_of, instruction_in, said_of, text_of}
 
@@ -32,7 +32,7 @@ module _ (s a b : Writer) where
 
   pub based_joined : (d r : ℕ) → Wrote s a (decimal_of d ++ 40 ∷ []) → Wrote a b (decimal_of r ++ 41 ∷ []) → Wrote s b (based d r)
   unfolding based
-  based_joined d r = also s a b (decimal_of d ++ 40 ∷ []) (decimal_of r) (41 ∷ [])
+  based_joined d r = also_wrote s a b (decimal_of d ++ 40 ∷ []) (decimal_of r) (41 ∷ [])
 
   pub rr_joined : (f : RrFields) → Wrote s a (decimal_of f.r1 ++ 44 ∷ []) → Wrote a b (decimal_of f.r2) → Wrote s b (rr_text f)
   unfolding rr_text
@@ -49,8 +49,8 @@ module _ (s a b : Writer) where
         → Wrote s c (indexed d x r)
     unfolding indexed
     indexed_joined d x r h i =
-        also s b c (decimal_of d ++ 40 ∷ [] ++ decimal_of x ++ comma) (decimal_of r) (41 ∷ [])
-        (also s a b (decimal_of d ++ 40 ∷ []) (decimal_of x) comma h i)
+        also_wrote s b c (decimal_of d ++ 40 ∷ [] ++ decimal_of x ++ comma) (decimal_of r) (41 ∷ [])
+        (also_wrote s a b (decimal_of d ++ 40 ∷ []) (decimal_of x) comma h i)
 
     -- x, then y, then z
     three : (x y z : List ℕ) → Wrote s a x → Wrote a b y → Wrote b c z → Wrote s c (x ++ y ++ z)
@@ -66,7 +66,7 @@ module _ (s a b : Writer) where
     unfolding rs_text
     rs_joined f h i =
         after s b c (decimal_of f.r1 ++ comma ++ decimal_of f.r3 ++ comma) (based f.d2 f.b2)
-        (also s a b (decimal_of f.r1 ++ comma) (decimal_of f.r3) comma h i)
+        (also_wrote s a b (decimal_of f.r1 ++ comma) (decimal_of f.r3) comma h i)
 
     pub si_joined : (f : SiFields) → Wrote s a (based f.d1 f.b1) → Wrote a b (44 ∷ []) → Wrote b c (quoted (f.i2 ∷ []))
         → Wrote s c (si_text f)

@@ -8,7 +8,7 @@ use Rattle.printing.specs.Lines.{STOP, REG, START, PAGE, BAD, LF, field, stop_li
 use Rattle.printing.specs.Answer.{reg_part, page_part, regs_from, pages_from, answer_text}
 use Rattle.printing.specs.declared.writing.Writer.{Writer}
 use Rattle.printing.specs.Writing.{Wrote}
-use Rattle.printing.proofs.WrittenText.{after, also, wrote_none}
+use Rattle.printing.proofs.WrittenText.{after, also_wrote, wrote_none}
 
 pub number_joined : (s a : Writer) (n v : ℕ) → digits_of 10 n v ≡ decimal_of v → Wrote s a (digits_of 10 n v) → Wrote s a (decimal_of v)
 number_joined s a n v e k = subst (Wrote s a) e k
@@ -21,7 +21,7 @@ last_joined s a b text = after s a b (field text) LF
 
 -- the parts before are there, and the last field comes with its LF
 ended : (s a b : Writer) (x y : List ℕ) → Wrote s a x → Wrote a b (y ++ LF) → Wrote s b (x ++ y ++ LF)
-ended s a b x y = also s a b x y LF
+ended s a b x y = also_wrote s a b x y LF
 
 module _ (s a b : Writer) where
   pub bad_joined : (n : ℕ) → Wrote s a BAD → Wrote a b (field (decimal_of n) ++ LF) → Wrote s b (bad_line n)

@@ -2,6 +2,7 @@
 pub mod WrittenText
 pub mod WritingLoops
 pub mod Places
+pub mod Widths
 pub mod Joined
 pub mod Lengths
 pub mod Filled

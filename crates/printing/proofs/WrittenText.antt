@@ -1,5 +1,5 @@
 -- Laws of `wrote`: one byte, a text after another, and a whole text in a buffer that holds it.
-use mathlib.Core.Path.{◌≡◌, refl, sym, ap, ◌∙◌, subst}
+use mathlib.Core.Path.{◌≡◌, refl, sym, ap, ◌∙◌}
 use mathlib.Core.List.{List, [], ◌∷◌, ◌++◌, append_assoc}
 use Prim.Native.Nat.{ℕ, suc, ◌+◌, ◌≤◌, ◌<◌}
 use native.Mathlib.Omega.{arith}
@@ -37,8 +37,17 @@ after s t u x y e f =
     }
 
 -- x is there, and y comes with z behind it
-pub also : (s t u : Writer) (x y z : List ℕ) → Wrote s t x → Wrote t u (y ++ z) → Wrote s u (x ++ y ++ z)
-also s t u x y z e f = subst (Wrote s u) (sym (append_assoc x y z)) (after s t u x (y ++ z) e f)
+pub also : (s t u : Spot) (x y z : List ℕ) → t ≡ wrote s x → u ≡ wrote t (y ++ z) → u ≡ wrote s (x ++ y ++ z)
+also s t u x y z e f =
+    f ∙ ap (λ (k : Spot). wrote k (y ++ z)) e ∙ sym (wrote_append s x (y ++ z)) ∙ ap (wrote s) (sym (append_assoc x y z))
+
+-- the same of writers
+pub also_wrote : (s t u : Writer) (x y z : List ℕ) → Wrote s t x → Wrote t u (y ++ z) → Wrote s u (x ++ y ++ z)
+also_wrote s t u x y z e f =
+    record {
+      same_buffer = f.same_buffer ∙ e.same_buffer;
+      written = also (spot_of s) (spot_of t) (spot_of u) x y z e.written f.written;
+    }
 
 -- where the text fits, every byte of it stands in the buffer
 pub wrote_sets : (b : List ℕ) (i : ℕ) (x : List ℕ) → i + length x ≤ length b → wrote (spot b i) x ≡ spot (sets b i x) (i + length x)

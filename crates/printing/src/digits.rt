@@ -31,16 +31,20 @@ pub fn digit_at(v: usize, base: usize, k: usize) -> u8
     }
 }
 
-// How many digits v has in decimal, with no leading zero.
+// How many digits v has in decimal, with no leading zero. From below, and by comparing alone: most numbers that are printed have few
+// digits. `decimal_of` knows ten digits, so what stands above them is left out.
 pub fn width(v: usize) -> usize
     ensures { digits_of 10 result v ≡ decimal_of v }
 {
-    for behind in (1..10).rev() {
-        if digit_at(v, 10, behind) != b'0' {
-            return behind + 1;
+    let low = v % 10_000_000_000;
+    let mut bound = 10;
+    for digits in 1..10 {
+        if low < bound {
+            return digits;
         }
+        bound *= 10;
     }
-    1
+    10
 }
 
 impl Writer<'_> {

@@ -1,18 +1,11 @@
-use mathlib.Core.Path.{refl}
-use borrow.Author.Rules.{rules}
-use Rattle.printing.specs.Digits.{decimal_of}
-use Rattle.printing.proofs.Places.{width_found, width_next, width_end}
+use native.Mathlib.Omega.{arith}
+use Rattle.printing.proofs.Widths.{width_told, width_most}
 use Rattle.printing.proofs.digits.width.Goals as goal
 
-pub loop-behind-init : goal.loop-behind-init
-unfolding decimal_of
-loop-behind-init c = (refl, search rules)
-
-pub returns-then-digit_at-ne48 : goal.returns-then-digit_at-ne48
-returns-then-digit_at-ne48 c = search width_found
-
-pub loop-behind-preserved : goal.loop-behind-preserved
-loop-behind-preserved c = (search width_next, search rules)
+pub returns-then-low-bound : goal.returns-then-low-bound
+returns-then-low-bound c =
+    let inv = c.loop-digits.invariant in
+    width_told _ _ c.loop-digits.auto.digits inv.1 (omega arith) (rw (← inv.0) c.if-low-bound.true)
 
 pub returns : goal.returns
-returns c = search width_end
+returns c = width_most _ _ c.loop-digits.auto.digits c.loop-digits.invariant.1 (omega arith)

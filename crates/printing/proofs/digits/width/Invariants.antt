@@ -1,7 +1,6 @@
 use mathlib.Core.Path.{◌≡◌}
-use Prim.Native.Nat.{◌≤◌}
-use Rattle.printing.specs.Digits.{digits_of, trimmed, decimal_of}
+use Prim.Native.Nat.{◌-◌, ◌^◌, ◌≤◌, ◌<◌}
 use Rattle.printing.proofs.digits.width.Given as goal
 
-abbrev pub invariant-loop-behind : goal.invariant-loop-behind
-invariant-loop-behind l = (decimal_of l.v ≡ trimmed (digits_of 10 l.behind l.v)) × (1 ≤ l.behind)
+abbrev pub invariant-loop-digits : goal.invariant-loop-digits
+invariant-loop-digits l = (l.bound ≡ 10 ^ l.digits) × (1 < l.digits → 10 ^ (l.digits - 1) ≤ l.low)
