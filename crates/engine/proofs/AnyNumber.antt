@@ -75,7 +75,8 @@ unfoldable pub AnswersToAny : AnyOut → List ℕ → List ℕ → Prog Cpu → 
 AnswersToAny (Ok n) regs regs' p = done (cpu_of regs' n) ≡ p
 AnswersToAny (Err (k, a)) regs regs' p = (fail k a ≡ p) × (regs' ≡ regs)
 
-pub answers_is : (o : Out) (regs regs' : List ℕ) (p : Prog Cpu) → ◌≡◌ {A = Type 0} (AnswersTo o regs regs' p) (AnswersToAny (any o) regs regs' p)
+pub answers_is : (o : Out) (regs regs' : List ℕ) (p : Prog Cpu)
+    → ◌≡◌ {A = Type 0} (AnswersTo o regs regs' p) (AnswersToAny (any o) regs regs' p)
 unfolding AnswersTo AnswersToAny
 answers_is (Ok n) regs regs' p = refl
 answers_is (Err k) regs regs' p = refl
@@ -126,8 +127,8 @@ ran_of r =
       now = record { pc = r.cpu.pc; code = r.cpu.code; mask = r.cpu.mask };
     }
 
-pub only_ran_any : (r r' : AnyRan) (regs regs' : List ℕ) (s s' : Framed) (x : Result Cpu Framed) → ran_as_any r regs s ≡ x → ran_as_any r' regs' s' ≡ x
-    → (r ≡ r') × (regs ≡ regs') × (s ≡ s')
+pub only_ran_any : (r r' : AnyRan) (regs regs' : List ℕ) (s s' : Framed) (x : Result Cpu Framed)
+    → ran_as_any r regs s ≡ x → ran_as_any r' regs' s' ≡ x → (r ≡ r') × (regs ≡ regs') × (s ≡ s')
 unfolding ran_of
 only_ran_any r r' regs regs' s s' x e e' =
     let l : ran_as_any r regs s ≡ ran_as_any r' regs' s' = only _ _ x e e' in

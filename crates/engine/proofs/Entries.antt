@@ -41,7 +41,8 @@ module _ (mem map regs : List ℕ) (pc code mask : ℕ) where
   step_away b r eb p er = rw (sym eb ∙ p) (ap (λ (x : Reply). outcome x mem map regs) er)
 
   module _ (budget : ℕ) where
-    pub run_fine : (b : Bool) (q : Reply) (ran : Ran Stop) (mem' map' regs' : List ℕ) → b ≡ proper (given mem map regs pc code mask) → b ≡ true → budget ≤ 65535
+    pub run_fine : (b : Bool) (q : Reply) (ran : Ran Stop) (mem' map' regs' : List ℕ)
+        → b ≡ proper (given mem map regs pc code mask) → b ≡ true → budget ≤ 65535
         → ran_as ran regs' (framed_of mem' map')
         ≡ run ops_for step budget (cpu_of regs (record { pc = pc; code = code; mask = mask })) (framed_of mem map)
         → q ≡ ran_reply ran

@@ -144,8 +144,8 @@ ran_of r = record { stopped = stopped_of r.stop r.place; count = r.count; now = 
 ran_back : (r : Ran Stop) (regs : List ℕ) (s : Framed) → ran_of (ran_as r regs s) ≡ r
 ran_back r regs s = ap (λ (o : Option Stop). record { stopped = o; count = r.count; now = r.now }) (stopped_back r.stopped)
 
-pub only_ran : (r r' : Ran Stop) (regs regs' : List ℕ) (s s' : Framed) (x : Result Cpu Framed) → ran_as r regs s ≡ x → ran_as r' regs' s' ≡ x
-    → (r ≡ r') × (regs ≡ regs') × (s ≡ s')
+pub only_ran : (r r' : Ran Stop) (regs regs' : List ℕ) (s s' : Framed) (x : Result Cpu Framed)
+    → ran_as r regs s ≡ x → ran_as r' regs' s' ≡ x → (r ≡ r') × (regs ≡ regs') × (s ≡ s')
 only_ran r r' regs regs' s s' x e e' = (
   part ran_of r r' _ _ x (ran_back r regs s) (ran_back r' regs' s') e e',
   part (λ (q : Result Cpu Framed). q.cpu.regs) regs regs' _ _ x refl refl e e',

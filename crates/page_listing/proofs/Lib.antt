@@ -4,3 +4,4 @@ pub mod EachByte
 pub mod OpenPage
 pub mod WholePage
 mod Only
+mod AnyNumber

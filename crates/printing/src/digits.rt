@@ -31,8 +31,8 @@ pub fn digit_at(v: usize, base: usize, k: usize) -> u8
     }
 }
 
-// How many digits v has in decimal, with no leading zero. From below, and by comparing alone: most numbers that are printed have few
-// digits. `decimal_of` knows ten digits, so what stands above them is left out.
+// How many digits v has in decimal, with no leading zero. From below, by comparing, with no division for a digit: most numbers that are
+// printed have few digits. `decimal_of` knows ten, so what stands above them is left out.
 pub fn width(v: usize) -> usize
     ensures { digits_of 10 result v ≡ decimal_of v }
 {
