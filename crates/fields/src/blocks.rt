@@ -22,6 +22,8 @@ fn move_on(mem: &mut [u8], to: usize, from: usize, len: u32)
     requires { (to + len ≤ length mem.old) × (from + len ≤ length mem.old) }
     ensures { mem.new ≡ flat_move mem.old to from len }
 {
+    // Two places, stepped on: of `mem[to + i] = mem[from + i]` the compiler writes out no turns in the library's quick loop, and such a move
+    // took about 1.4 times as long (docs/LOOK-BACK.md).
     let mut a = to;
     let mut b = from;
     for _ in 0..len {

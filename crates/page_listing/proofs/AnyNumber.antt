@@ -2,13 +2,13 @@
 -- which hold few numbers; here a reply has any. Each shape is Only's at the numbers of what those types hold, and the lemma behind it says so.
 use Prim.Native.Nat.{ℕ}
 use mathlib.Core.Path.{◌≡◌, refl, sym, ◌∙◌, ap}
-use mathlib.Core.List.{List}
+use mathlib.Core.List.{List, []}
 use Rattle.std.specs.Prelude.{Result, Ok, Err}
 use Rattle.lines.specs.declared.Listed.{Listed}
 use Rattle.lines.specs.declared.StartOutOfRange.{StartOutOfRange}
 use Rattle.lines.specs.Listing.{Answer, answered}
 use Rattle.page_listing.specs.declared.PageRefusal.{PageRefusal}
-use Rattle.page_listing.specs.Page.{number_in, place_in, PageAnswer, page_answered}
+use Rattle.page_listing.specs.Page.{PageAnswer, page_answered}
 
 -- a listing's reply
 pub record AnyListed : Type 0 where
@@ -20,20 +20,17 @@ pub record AnyListed : Type 0 where
 abbrev pub answered_any : AnyListed → List ℕ → Answer
 answered_any r out = record { number = r.number; lines = r.lines; next = r.next; written = r.written; out = out }
 
-abbrev pub any_listed : Result Listed StartOutOfRange → AnyListed
-any_listed (Ok r) = record { number = 0; lines = r.lines; next = r.next; written = r.written }
-any_listed (Err e) = record { number = 6; lines = 0; next = 0; written = 0 }
+-- the reply that an answer tells
+abbrev pub listed_in : Answer → AnyListed
+listed_in a = record { number = a.number; lines = a.lines; next = a.next; written = a.written }
 
-pub listed_is : (r : Result Listed StartOutOfRange) (out : List ℕ) → answered r out ≡ answered_any (any_listed r) out
+pub listed_is : (r : Result Listed StartOutOfRange) (out : List ℕ) → answered r out ≡ answered_any (listed_in (answered r [])) out
 listed_is (Ok r) out = refl
 listed_is (Err e) out = refl
 
 pub only_answered_any : (r r' : AnyListed) (out out' : List ℕ) (x : Answer) → answered_any r out ≡ x → answered_any r' out' ≡ x
     → (r ≡ r') × (out ≡ out')
-only_answered_any r r' out out' x e e' = (
-  ap (λ (a : Answer). record { number = a.number; lines = a.lines; next = a.next; written = a.written }) (e ∙ sym e'),
-  ap (λ (a : Answer). a.out) (e ∙ sym e'),
-)
+only_answered_any r r' out out' x e e' = (ap listed_in (e ∙ sym e'), ap (λ (a : Answer). a.out) (e ∙ sym e'))
 
 -- a page's
 pub record AnyPage : Type 0 where
@@ -47,17 +44,13 @@ abbrev pub page_answered_any : AnyPage → List ℕ → PageAnswer
 page_answered_any r out =
     record { number = r.number; place = r.place; lines = r.lines; next = r.next; written = r.written; out = out }
 
-abbrev pub any_page : Result Listed PageRefusal → AnyPage
-any_page (Ok r) = record { number = 0; place = 0; lines = r.lines; next = r.next; written = r.written }
-any_page (Err e) = record { number = number_in e; place = place_in e; lines = 0; next = 0; written = 0 }
+abbrev pub page_in : PageAnswer → AnyPage
+page_in a = record { number = a.number; place = a.place; lines = a.lines; next = a.next; written = a.written }
 
-pub page_is : (r : Result Listed PageRefusal) (out : List ℕ) → page_answered r out ≡ page_answered_any (any_page r) out
+pub page_is : (r : Result Listed PageRefusal) (out : List ℕ) → page_answered r out ≡ page_answered_any (page_in (page_answered r [])) out
 page_is (Ok r) out = refl
 page_is (Err e) out = refl
 
 pub only_page_any : (r r' : AnyPage) (out out' : List ℕ) (x : PageAnswer) → page_answered_any r out ≡ x → page_answered_any r' out' ≡ x
     → (r ≡ r') × (out ≡ out')
-only_page_any r r' out out' x e e' = (
-  ap (λ (a : PageAnswer). record { number = a.number; place = a.place; lines = a.lines; next = a.next; written = a.written }) (e ∙ sym e'),
-  ap (λ (a : PageAnswer). a.out) (e ∙ sym e'),
-)
+only_page_any r r' out out' x e e' = (ap page_in (e ∙ sym e'), ap (λ (a : PageAnswer). a.out) (e ∙ sym e'))

@@ -121,6 +121,7 @@ pub fn list_of<'a, const N: usize, T: Number<N>>(
     Ok(rest)
 }
 
+// The scalars, eighteen bytes.
 pub fn scalars_of(bytes: &[u8]) -> Result<Scalars, Trouble> {
     let (pc, rest) = first_of(bytes)?;
     let (code, rest) = first_of(rest)?;
